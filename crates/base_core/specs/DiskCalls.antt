@@ -1,0 +1,55 @@
+-- What each call of a disk does.
+use Rattle.std.specs.Option.{option_map}
+use Rattle.std.specs.Prelude.{◌≡◌, ◌⊎◌, ℕ, ◌+◌, ◌<◌, ◌≤◌, true, false, List, [], ◌++◌, Option, Some, None, Result, OnOk, length}
+use Rattle.base_core.specs.CrashImages.{Image, Fresh, DiskState, LeavesOnly, LeavesSame, IsDurable}
+
+-- Every call of a disk: it keeps the mark, each pair that it adds may be left just before it or just after it, and the clock rises where what may be left changes.
+pub record DiskCall (old new : DiskState) : Type 0 where
+  pub mark : new.mark ≡ old.mark
+  pub each : LeavesOnly old new (λ c n. (n ≡ old.mark) × (old.leaves c ⊎ new.leaves c))
+  pub stands : new.clock ≡ old.clock → LeavesSame old new
+
+-- what `length` answers
+abbrev pub IsLength : Image → Option ℕ → Type 0
+IsLength None answer = answer ≡ None
+IsLength (Some bytes) answer = answer ≡ Some (length bytes)
+
+-- the main file is there and has a byte at this offset
+abbrev pub HasByteAt : Option Image → ℕ → Type 0
+HasByteAt reads at = (b : List ℕ) × (reads ≡ Some (Some b)) × (at < length b)
+
+-- the new file that is just begun
+abbrev pub begun : Fresh
+begun = record { bytes = []; is_synced = false }
+
+abbrev pub appended : Fresh → List ℕ → Fresh
+appended f bytes = record { bytes = f.bytes ++ bytes; is_synced = false }
+
+abbrev pub synced : Fresh → Fresh
+synced f = record f { is_synced = true }
+
+-- a whole new file, all of it on the disk
+abbrev pub IsWhole : Option Fresh → Type 0
+IsWhole fresh = (f : Fresh) × (fresh ≡ Some f) × (f.is_synced ≡ true)
+
+-- the main file that the new one would be
+abbrev pub new_image : Option Fresh → Option Image
+new_image fresh = option_map (λ (f : Fresh). Some f.bytes) fresh
+
+-- After Ok a crash leaves what the main file reads and nothing else; after a failure, what it could leave before.
+pub record Syncs {T E : Type 0} (old new : DiskState) (result : Result T E) : Type 0 where
+  pub reads : OnOk result (new.reads ≡ old.reads)
+  pub durable : OnOk result (IsDurable new)
+  pub crash : (c : Image) → new.leaves c → old.leaves c
+  pub fresh : new.fresh ≡ old.fresh
+  pub written : new.written ≡ old.written
+  pub publishes : new.publishes ≡ old.publishes
+
+-- A crash leaves the old file or the whole new one, and after Ok only the new one.
+pub record Publishes {T E : Type 0} (old new : DiskState) (result : Result T E) : Type 0 where
+  pub reads : OnOk result (new.reads ≡ new_image old.fresh)
+  pub durable : OnOk result (IsDurable new)
+  pub crash : (c : Image) → new.leaves c → old.leaves c ⊎ (new_image old.fresh ≡ Some c)
+  pub fresh : new.fresh ≡ None
+  pub written : new.written ≡ old.written
+  pub publishes : new.publishes ≤ old.publishes + 1

@@ -1,0 +1,9 @@
+pub mod Causes
+pub mod CrashImages
+pub mod DiskCalls
+pub mod Escapes
+pub mod HostCalls
+pub mod Notes
+pub mod OrderedMap
+pub mod Time
+pub mod Transactions

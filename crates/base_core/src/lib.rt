@@ -1,0 +1,29 @@
+//! What every crate shares: the devices as traits with their meanings, and the types of the tools.
+#![tactic(auto)]
+
+mod action;
+mod bytes;
+mod disk;
+mod flaw;
+mod host;
+mod limits;
+mod note;
+mod pair;
+mod status;
+mod steps;
+
+pub use action::{Action, Backend, Options};
+pub use bytes::{Bytes, NoMemory, Text};
+pub use disk::{Disk, Failed};
+pub use flaw::{Damage, Flaw};
+pub use host::Host;
+pub use limits::{
+    FILES_LIMIT, FLAT_LIMIT, KEY_LIMIT, PIECE_SIZE, SCRIPT_LIMIT, SKIP_LIMIT, VALUE_LIMIT,
+};
+pub use note::{Device, LimitName, Note, NoteText, Outcome};
+pub use pair::{Pair, compare_keys};
+pub use status::{
+    STATUS_ABSENT, STATUS_BAD_LINE, STATUS_DAMAGED, STATUS_DEVICE_FAULT, STATUS_DONE,
+    STATUS_EXISTS, STATUS_LIMIT, STATUS_NEGATIVE, STATUS_NO_MEMORY, STATUS_USAGE,
+};
+pub use steps::Steps;
