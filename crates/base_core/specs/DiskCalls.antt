@@ -18,6 +18,13 @@ IsLength (Some bytes) answer = answer ≡ Some (length bytes)
 abbrev pub HasByteAt : Option Image → ℕ → Type 0
 HasByteAt reads at = (b : List ℕ) × (reads ≡ Some (Some b)) × (at < length b)
 
+-- the main file is there and has so many bytes
+abbrev pub HasLength : Option Image → ℕ → Type 0
+HasLength reads size = (b : List ℕ) × (reads ≡ Some (Some b)) × (length b ≡ size)
+
+abbrev pub fresh_bytes : Option Fresh → Option (List ℕ)
+fresh_bytes fresh = option_map (λ (f : Fresh). f.bytes) fresh
+
 -- the new file that is just begun
 abbrev pub begun : Fresh
 begun = record { bytes = []; is_synced = false }

@@ -1,0 +1,86 @@
+// A file goes in and out in pieces.
+ghost use Rattle.std.specs.Prelude.{◌≡◌, ◌≤◌, ◌<◌, ◌++◌, ◌+◌, take, ℕ, List, Some, IsSome, is_some, IfOk, OnOk, OnErr, length};
+ghost use Rattle.std.specs.Option.{option_map};
+ghost use Rattle.base_core.specs.Causes.{HasCause, Rose};
+ghost use Rattle.base_core.specs.CrashImages.{StaysAs};
+ghost use Rattle.base_core.specs.DiskCalls.{fresh_bytes, HasLength};
+
+use crate::{Disk, Failed, PIECE_SIZE};
+use std::alloc::Global;
+
+/// Why a file could not be read whole.
+#[derive(Clone, Copy, Debug, PartialEq, Eq)]
+pub enum ReadFault {
+    NoMemory,
+    DiskFault,
+}
+
+/// Adds the bytes at the end of the new file, in pieces of at most `PIECE_SIZE`.
+pub fn write_pieces<D: Disk>(disk: &mut D, bytes: &[u8]) -> Result<(), Failed>
+    requires { IsSome (D.state disk.old).reads → IsSome (D.state disk.old).fresh }
+    ensures written { OnOk result (fresh_bytes (D.state disk.new).fresh ≡ option_map (λ b. b ++ bytes.now) (fresh_bytes (D.state disk.old).fresh)) }
+    ensures begun { OnOk result (is_some (D.state disk.new).fresh ≡ is_some (D.state disk.old).fresh) }
+    ensures stays { StaysAs (D.state disk.old) (D.state disk.new) }
+    ensures cause { HasCause (D.state disk.old).faults (D.state disk.new).faults result }
+    ensures rest { D.disk_rest disk.old disk.new }
+{
+    let mut at = 0;
+    while at < bytes.len() {
+        let count = PIECE_SIZE.min(bytes.len() - at);
+        disk.new_write(&bytes[at..at + count])?;
+        at += count;
+    }
+    Ok(())
+}
+
+/// All the bytes of the main file, whose length was told before. No other call of the disk is made than reads.
+pub fn read_whole<D: Disk>(alloc: Global, disk: &mut D, length: u64) -> Result<Vec<u8>, ReadFault>
+    requires { IsSome (D.state disk.old).reads → HasLength (D.state disk.old).reads length }
+    ensures bytes { IfOk result (λ v. (b : List ℕ) → (D.state disk.old).reads ≡ Some (Some b) → v.items ≡ b) }
+    ensures fault { result ≡ Err ReadFault.DiskFault → Rose (D.state disk.old).faults (D.state disk.new).faults }
+    ensures faults { OnOk result ((D.state disk.new).faults ≡ (D.state disk.old).faults) }
+    ensures no_fault { result ≡ Err ReadFault.NoMemory → (D.state disk.new).faults ≡ (D.state disk.old).faults }
+    ensures fresh { (D.state disk.new).fresh ≡ (D.state disk.old).fresh }
+    ensures stays { StaysAs (D.state disk.old) (D.state disk.new) }
+    ensures rest { D.disk_rest disk.old disk.new }
+{
+    let Ok(mut bytes) = vec![in alloc; 0u8; length as usize] else {
+        return Err(ReadFault::NoMemory);
+    };
+    match fill(disk, &mut bytes) {
+        Ok(()) => Ok(bytes),
+        Err(_) => Err(ReadFault::DiskFault),
+    }
+}
+
+// Reads the first bytes of the main file, as many as there is room for.
+fn fill<D: Disk>(disk: &mut D, into: &mut [u8]) -> Result<(), Failed>
+    requires { IsSome (D.state disk.old).reads → HasLength (D.state disk.old).reads (length into.old) }
+    ensures bytes { OnOk result ((b : List ℕ) → (D.state disk.old).reads ≡ Some (Some b) → into.new ≡ b) }
+    ensures fresh { (D.state disk.new).fresh ≡ (D.state disk.old).fresh }
+    ensures stays { StaysAs (D.state disk.old) (D.state disk.new) }
+    ensures cause { HasCause (D.state disk.old).faults (D.state disk.new).faults result }
+    ensures rest { D.disk_rest disk.old disk.new }
+{
+    let mut at = 0;
+    while at < into.len() {
+        at += read_piece(disk, at, into)?;
+    }
+    Ok(())
+}
+
+// Reads some of the bytes from `at` on into their place.
+fn read_piece<D: Disk>(disk: &mut D, at: usize, into: &mut [u8]) -> Result<usize, Failed>
+    requires at { at < length into.old }
+    requires there { IsSome (D.state disk.old).reads → HasLength (D.state disk.old).reads (length into.old) }
+    ensures bound { IfOk result (λ count. (0 < count) × (at + count ≤ length into.old)) }
+    ensures before { take at into.new ≡ take at into.old }
+    ensures bytes { IfOk result (λ count. (b : List ℕ) → (D.state disk.old).reads ≡ Some (Some b) → take at into.old ≡ take at b → take (at + count) into.new ≡ take (at + count) b) }
+    ensures fresh { (D.state disk.new).fresh ≡ (D.state disk.old).fresh }
+    ensures stays { StaysAs (D.state disk.old) (D.state disk.new) }
+    ensures cause { HasCause (D.state disk.old).faults (D.state disk.new).faults result }
+    ensures rest { D.disk_rest disk.old disk.new }
+{
+    let count = disk.read_at(at as u64, &mut into[at..])?;
+    Ok(count)
+}
