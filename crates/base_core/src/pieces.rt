@@ -1,5 +1,5 @@
 // A file goes in and out in pieces.
-ghost use Rattle.std.specs.Prelude.{◌≡◌, ◌≤◌, ◌<◌, ◌++◌, ◌+◌, take, ℕ, List, Some, IsSome, is_some, IfOk, OnOk, OnErr, length};
+ghost use Rattle.std.specs.Prelude.{◌≡◌, ◌≤◌, ◌<◌, ◌++◌, ◌+◌, take, ℕ, List, Some, IsSome, is_some, IfOk, OnOk, OnErr, length, vec_len};
 ghost use Rattle.std.specs.Option.{option_map};
 ghost use Rattle.base_core.specs.Causes.{HasCause, Rose};
 ghost use Rattle.base_core.specs.CrashImages.{StaysAs};
@@ -37,6 +37,7 @@ pub fn write_pieces<D: Disk>(disk: &mut D, bytes: &[u8]) -> Result<(), Failed>
 pub fn read_whole<D: Disk>(alloc: Global, disk: &mut D, length: u64) -> Result<Vec<u8>, ReadFault>
     requires { IsSome (D.state disk.old).reads → HasLength (D.state disk.old).reads length }
     ensures bytes { IfOk result (λ v. (b : List ℕ) → (D.state disk.old).reads ≡ Some (Some b) → v.items ≡ b) }
+    ensures size { IfOk result (λ v. vec_len v ≡ length) }
     ensures fault { result ≡ Err ReadFault.DiskFault → Rose (D.state disk.old).faults (D.state disk.new).faults }
     ensures faults { OnOk result ((D.state disk.new).faults ≡ (D.state disk.old).faults) }
     ensures no_fault { result ≡ Err ReadFault.NoMemory → (D.state disk.new).faults ≡ (D.state disk.old).faults }

@@ -1,0 +1,4 @@
+pub mod FieldLemmas
+pub mod PlaceLemmas
+pub mod RunLemmas
+pub mod SettingLemmas

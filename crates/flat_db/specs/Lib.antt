@@ -1,0 +1,3 @@
+pub mod FlatText
+pub mod Lines
+pub mod SetPair
