@@ -10,7 +10,7 @@ use Rattle.flat_db.specs.FlatText.{FlatTextOf, IsFirstUnplain, canonical_text}
 use Rattle.flat_db.specs.declared.setting.SetFault.{SetFault}
 use Rattle.flat_db.specs.declared.setting.SetFault.TheVariants.{Absent, TooBig, NoMemory, DiskFault, Damaged, Full}
 
--- The file is a plain text within the limit, and the other one is the canonical text of its map with the pair put.
+-- The file is a plain text, the other one is the canonical text of its map with the pair put, and both are within the limit.
 pub record IsSet (key value : List ℕ) (main after : Image) : Type 0 where
   pub text : List ℕ
   pub map : Map
@@ -18,6 +18,7 @@ pub record IsSet (key value : List ℕ) (main after : Image) : Type 0 where
   pub within : length text ≤ FLAT_LIMIT
   pub text_of : FlatTextOf text map
   pub done : after ≡ Some (canonical_text (put map key value))
+  pub fits : length (canonical_text (put map key value)) ≤ FLAT_LIMIT
 
 -- the file has more bytes than it may
 pub record IsTooBig (main : Image) (size : ℕ) : Type 0 where

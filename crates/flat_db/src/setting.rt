@@ -120,6 +120,7 @@ fn change_of(alloc: Global, text: &[u8], key: &[u8], value: &[u8]) -> Result<Cha
     requires key { IsBelow [] key.now × IsPlain key.now × (length key.now ≤ KEY_LIMIT) }
     requires value { IsPlain value.now × (length value.now ≤ VALUE_LIMIT) }
     ensures change { IfOk result (λ change. PutsLine text.now key.now change.place.start change.place.end × (change.line.items ≡ pair_line key.now value.now)) }
+    ensures fits { IfOk result (λ change. length (take change.place.start text.now ++ (change.line.items ++ drop change.place.end text.now)) ≤ FLAT_LIMIT) }
     ensures refusal { IfErr result (IsRefusal key.now value.now (Some text.now)) }
     ensures late { IfErr result IsLate }
 {
@@ -168,8 +169,5 @@ pub fn set_pair<D: Disk>(
 {
     let text = load(alloc, disk)?;
     let change = change_of(alloc, &text, key, value)?;
-    match replace(disk, &text, change.place, &change.line) {
-        Ok(()) => Ok(()),
-        Err(_) => Err(SetFault::DiskFault),
-    }
+    replace(disk, &text, change.place, &change.line).map_err(|_| SetFault::DiskFault)
 }
