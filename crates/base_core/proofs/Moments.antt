@@ -2,7 +2,7 @@
 use Rattle.std.proofs.Common.{◌≡◌, Some, ◌⊎◌, inl, inr, ⊎_elim, ℕ, ◌≤◌, ◌∙◌, sym, refl, subst, arith}
 use Rattle.std.specs.Prelude.{IsSome}
 use Rattle.base_core.specs.DiskCalls.{DiskCall}
-use Rattle.base_core.specs.CrashImages.{Image, DiskState, GoesOn, LeavesOnly, LeavesSame, KeepsMain, StaysAs, IsMoment, IsDurable}
+use Rattle.base_core.specs.CrashImages.{Image, DiskState, GoesOn, LeavesOnly, LeavesSame, KeepsMain, StaysAs, SameDisk, IsMoment, IsDurable}
 
 -- what holds of each pair left during two runs holds of each left during both
 pub each_then : (a b c : DiskState) (P : Image → ℕ → Type 0) → GoesOn a b → GoesOn b c → LeavesOnly a b P → LeavesOnly b c P → LeavesOnly a c P
@@ -59,3 +59,22 @@ stays_then a b c first second ab bc = record {
   mark = bc.mark ∙ ab.mark;
   each = record { each = λ i n left. ⊎_elim (ab.each.each i n) (λ since. let pair = bc.each.each i n since in (pair.0 ∙ ab.mark, ab.main.leaves.no_more i pair.1)) (second.adds a.clock i n first.later left) };
 }
+
+-- a call that changes nothing of the disk, behind a run of calls
+pub leaves_still : (a b c : DiskState) (P : Image → ℕ → Type 0) → SameDisk b c → LeavesOnly a b P → LeavesOnly a c P
+leaves_still a b c P same only = record { each = λ i n left. only.each i n ((same.left_since a.clock i n).0 left) }
+
+pub stays_still : (a b c : DiskState) → SameDisk b c → StaysAs a b → StaysAs a c
+stays_still a b c same stays = record {
+  main = record {
+    reads = same.reads ∙ stays.main.reads;
+    leaves = record { no_more = λ i left. stays.main.leaves.no_more i (same.leaves.no_more i left); no_less = λ i left. same.leaves.no_less i (stays.main.leaves.no_less i left) };
+    written = same.written ∙ stays.main.written;
+    publishes = same.publishes ∙ stays.main.publishes;
+  };
+  mark = same.mark ∙ stays.mark;
+  each = leaves_still a b c (λ i n. (n ≡ a.mark) × a.leaves i) same stays.each;
+}
+
+pub durable_still : (b c : DiskState) → SameDisk b c → IsDurable b → IsDurable c
+durable_still b c same durable = record { only = λ i left. same.reads ∙ durable.only i (same.leaves.no_more i left) }

@@ -1,0 +1,2 @@
+pub mod JobOf
+pub mod StatedResult

@@ -1,0 +1,136 @@
+// The top call: words, the host's files and streams in, the status and its note out.
+ghost use Rattle.std.specs.Prelude.{◌≡◌, ◌⊎◌, ◌↔◌, Some, IsErr, IfErr, ℕ, List, None, map, string_bytes};
+ghost use Rattle.base_core.specs.Causes.{Rose};
+ghost use Rattle.base_core.specs.CrashImages.{Image, LeavesOnly, StaysAs, SameDisk, IsDurable};
+ghost use Rattle.base_core.specs.HostCalls.{told_with};
+ghost use Rattle.base_core.specs.Notes.{note_text, status_of};
+ghost use Rattle.flat_db.specs.SetPair.{IsOwnRefusal};
+ghost use Rattle.cyr_top.specs.JobOf.{job_of, set_job, CanSet, CanDo};
+ghost use Rattle.cyr_top.specs.StatedResult.{set_note, IsStated, IsFault, IsRefused, SetsPair, LeftByJob};
+
+use crate::{Job, WordFault, job};
+use base_core::{Action, Backend, Device, Host, LimitName, Note, Outcome};
+use flat_db::{SetFault, set_pair};
+use std::alloc::Global;
+
+fn note_of(set: Result<(), SetFault>) -> Note
+    ensures done { (result ≡ Note.Done) ↔ (set ≡ Ok tt) }
+    ensures note { result ≡ set_note set }
+    ensures fault { IsFault result ↔ (set ≡ Err SetFault.DiskFault) }
+    ensures refused { IsRefused result → IfErr set IsOwnRefusal × IsErr set }
+    ensures built { result ≡ Note.Usage → ⊥ }
+{
+    match set {
+        Ok(()) => Note::Done,
+        Err(SetFault::Absent) => Note::Absent,
+        Err(SetFault::TooBig { size } | SetFault::Full { size }) => Note::Limit {
+            limit: LimitName::File,
+            number: size,
+        },
+        Err(SetFault::NoMemory) => Note::Memory,
+        Err(SetFault::DiskFault) => Note::DeviceFault {
+            device: Device::Host,
+        },
+        Err(SetFault::Damaged { at, check }) => Note::Damaged { at, check },
+    }
+}
+
+// Sets the pair in the host's main file, which is flat.
+fn set_flat<H: Host>(alloc: Global, key: &[u8], value: &[u8], host: &mut H) -> Note
+    requires { CanSet key.now value.now }
+    ensures stated { (main : Image) → (H.state host.old).reads ≡ Some main → IsStated key.now value.now main result (H.state host.new).reads }
+    ensures refused { IsRefused result → StaysAs (H.state host.old) (H.state host.new) × ((H.state host.new).fresh ≡ (H.state host.old).fresh) }
+    ensures any_moment { LeavesOnly (H.state host.old) (H.state host.new) (λ c n. (n ≡ (H.state host.old).mark) × ((H.state host.old).leaves c ⊎ SetsPair key.now value.now (H.state host.old).reads c)) }
+    ensures durable { result ≡ Note.Done → IsDurable (H.state host.new) }
+    ensures cause { IsFault result → Rose (H.state host.old).faults (H.state host.new).faults }
+    ensures no_fault { (IsFault result → ⊥) → (H.state host.new).faults ≡ (H.state host.old).faults }
+    ensures built { result ≡ Note.Usage → ⊥ }
+    ensures rest { H.disk_rest host.old host.new }
+{
+    note_of(set_pair(alloc, host, key, value))
+}
+
+// Does a job that words stand for.
+fn do_job<H: Host>(alloc: Global, job: &Job, host: &mut H) -> Note
+    requires { CanDo job.now }
+    ensures stated { (file key value : List ℕ) → job.now ≡ set_job file key value
+        → (main : Image) → (H.state host.old).reads ≡ Some main → IsStated key value main result (H.state host.new).reads }
+    ensures refused { IsRefused result → StaysAs (H.state host.old) (H.state host.new) × ((H.state host.new).fresh ≡ (H.state host.old).fresh) }
+    ensures any_moment { LeavesOnly (H.state host.old) (H.state host.new)
+        (λ c n. (n ≡ (H.state host.old).mark) × ((H.state host.old).leaves c ⊎ LeftByJob (Some job.now) (H.state host.old).reads c)) }
+    ensures durable { result ≡ Note.Done → IsDurable (H.state host.new) }
+    ensures cause { IsFault result → Rose (H.state host.old).faults (H.state host.new).faults }
+    ensures no_fault { (IsFault result → ⊥) → (H.state host.new).faults ≡ (H.state host.old).faults }
+    ensures built { result ≡ Note.Usage → ⊥ }
+    ensures rest { H.disk_rest host.old host.new }
+{
+    match job {
+        Job::Dbtool {
+            backend: Backend::Flat,
+            action: Action::Set { key, value },
+            ..
+        } => set_flat(alloc, key.as_slice(), value.as_slice(), host),
+        _ => unreachable!(),
+    }
+}
+
+// Does what the words ask for.
+fn perform<H: Host>(alloc: Global, words: &[String], host: &mut H) -> Note
+    ensures usage { (result ≡ Note.Usage) ↔ (job_of (map string_bytes words.now) ≡ None) }
+    ensures stated { (file key value : List ℕ) → job_of (map string_bytes words.now) ≡ Some (set_job file key value)
+        → (main : Image) → (H.state host.old).reads ≡ Some main → IsStated key value main result (H.state host.new).reads }
+    ensures untouched { result ≡ Note.Usage → host.new ≡ host.old }
+    ensures refused { IsRefused result → StaysAs (H.state host.old) (H.state host.new) × ((H.state host.new).fresh ≡ (H.state host.old).fresh) }
+    ensures any_moment { LeavesOnly (H.state host.old) (H.state host.new)
+        (λ c n. (n ≡ (H.state host.old).mark) × ((H.state host.old).leaves c ⊎ LeftByJob (job_of (map string_bytes words.now)) (H.state host.old).reads c)) }
+    ensures durable { result ≡ Note.Done → IsDurable (H.state host.new) }
+    ensures cause { IsFault result → Rose (H.state host.old).faults (H.state host.new).faults }
+    ensures no_fault { (IsFault result → ⊥) → (H.state host.new).faults ≡ (H.state host.old).faults }
+    ensures rest { H.disk_rest host.old host.new }
+{
+    match job(alloc, words) {
+        Ok(job) => do_job(alloc, &job, host),
+        Err(WordFault::Usage) => Note::Usage,
+        Err(WordFault::NoMemory) => Note::Memory,
+    }
+}
+
+/// Does all that the program does: what the words ask for, over the host's files and streams.
+///
+/// `words` are the command line without the program's own name. The note's text goes to standard error.
+pub fn run<H: Host>(alloc: Global, words: &[String], host: &mut H) -> Outcome
+    ensures status { result.status ≡ status_of result.note }
+
+    // The words give no job: exactly then the run answers so, and it changes nothing but standard error.
+    ensures usage { (result.note ≡ Note.Usage) ↔ (job_of (map string_bytes words.now) ≡ None) }
+    ensures untouched { result.note ≡ Note.Usage → SameDisk (H.state host.old) (H.state host.new) }
+
+    // Each other note comes where it is stated, by what the main file reads; with `Done` it reads the text of the map with the pair put.
+    ensures stated { (file key value : List ℕ) → job_of (map string_bytes words.now) ≡ Some (set_job file key value)
+        → (main : Image) → (H.state host.old).reads ≡ Some main → IsStated key value main result.note (H.state host.new).reads }
+    ensures durable { result.note ≡ Note.Done → IsDurable (H.state host.new) }
+
+    // A refusal that is no device fault leaves the file as it was, at every moment.
+    ensures refused { IsRefused result.note → StaysAs (H.state host.old) (H.state host.new) × ((H.state host.new).fresh ≡ (H.state host.old).fresh) }
+
+    // Wherever the run stops, the file is one that could be left before, or the whole new one.
+    ensures any_moment { LeavesOnly (H.state host.old) (H.state host.new)
+        (λ c n. (n ≡ (H.state host.old).mark) × ((H.state host.old).leaves c ⊎ LeftByJob (job_of (map string_bytes words.now)) (H.state host.old).reads c)) }
+
+    // A device fault is answered exactly where the count rose, or stands at its last value.
+    ensures cause { IsFault result.note → Rose (H.state host.old).faults (H.state host.new).faults }
+    ensures no_fault { (IsFault result.note → ⊥) → (H.state host.new).faults ≡ (H.state host.old).faults }
+
+    // Nothing is printed but the note's text, on standard error.
+    ensures told { (H.streams host.new).told ≡ (H.streams host.old).told }
+    ensures tell_faults { (H.streams host.new).tell_faults ≡ (H.streams host.old).tell_faults }
+    ensures warned { ((H.streams host.new).warned ≡ told_with (H.streams host.old).warned (note_text result.note)) ⊎ ((H.streams host.new).warned ≡ None) }
+    ensures rest { H.host_rest host.old host.new }
+{
+    let note = perform(alloc, words, host);
+    host.warn(note.text().as_str().as_bytes());
+    Outcome {
+        status: note.status(),
+        note,
+    }
+}
