@@ -1,0 +1,59 @@
+-- A call of a disk in memory notes one step at most, so time goes on.
+use Rattle.std.proofs.Common.{◌≡◌, ◌⊎◌, inl, inr, ⊎_elim, ℕ, ◌≤◌, Option, refl, [], ◌∷◌, ◌++◌, length, List, ap, sym, subst, arith, length-append}
+use Rattle.base_core.specs.CrashImages.{GoesOn, Image, Fresh}
+use Rattle.disk_kinds.specs.Replay.{LeftSince, replay_keeps, replay_adds, replay_counts, replay_earlier, after}
+use Rattle.disk_kinds.specs.Memory.{state_of}
+use Rattle.disk_kinds.specs.History.{Moment, Step, kept, moment_step, IsImage, mark_of}
+
+module _ (start : Moment) where
+  abbrev Left : List Step → ℕ → Image → ℕ → Type 0
+  Left steps = LeftSince moment_step IsImage mark_of start steps
+
+  abbrev Time : List Step → List Step → Type 0
+  Time old new = (length old ≤ length new)
+      × ((t : ℕ) (c : Image) (n : ℕ) → t ≤ length old → Left old t c n → Left new t c n)
+      × ((t : ℕ) (c : Image) (n : ℕ) → t ≤ length old → Left new t c n → Left old t c n ⊎ Left new (length old) c n)
+
+  one_more : (old : List Step) (e : Step) → Time old (old ++ e ∷ [])
+  one_more old e = (
+    omega (arith, length-append old (e ∷ [])),
+    λ t c n _ left. replay_keeps moment_step IsImage mark_of start old e t c n left,
+    λ t c n _ left. ⊎_elim (λ was. inl was) (λ now. inr (last c n now)) (replay_adds moment_step IsImage mark_of start old e t c n left),
+  )
+    where
+      last : (c : Image) (n : ℕ) → IsImage (after moment_step IsImage mark_of start (old ++ e ∷ [])) c × (n ≡ mark_of (after moment_step IsImage mark_of start (old ++ e ∷ []))) → Left (old ++ e ∷ []) (length old) c n
+      last c n now =
+          let left = replay_counts moment_step IsImage mark_of start (old ++ e ∷ []) c now.0 in
+          subst (λ (k : ℕ). Left (old ++ e ∷ []) (length old) c k) (sym now.1)
+          (replay_earlier moment_step IsImage mark_of start (old ++ e ∷ []) (length old) (length (old ++ e ∷ [])) c _ (omega (arith, length-append old (e ∷ []))) left)
+
+  no_more : (old : List Step) → Time old old
+  no_more old = (omega arith, λ t c n _ left. left, λ t c n _ left. inl left)
+
+  time_of : (old new : List Step) (e : Step) → (new ≡ old ++ e ∷ []) ⊎ (new ≡ old) → Time old new
+  time_of old new e (inl more) = subst (λ (es : List Step). Time old es) (sym more) (one_more old e)
+  time_of old new e (inr same) = subst (λ (es : List Step). Time old es) (sym same) (no_more old)
+
+goes_on : (start : Moment) (old new : List Step) (e : Step) (fresh fresh' : Option Fresh) (faults faults' written written' publishes publishes' : ℕ) → (new ≡ old ++ e ∷ []) ⊎ (new ≡ old) → faults ≤ faults' → written ≤ written' → publishes ≤ publishes'
+    → GoesOn (state_of start old fresh faults written publishes) (state_of start new fresh' faults' written' publishes')
+goes_on start old new e fresh fresh' faults faults' written written' publishes publishes' noted failed more counts =
+    let time = time_of start old new e noted in
+    record {
+      later = time.0;
+      keeps = time.1;
+      adds = time.2;
+      telling = (λ _. refl, λ _. refl);
+      faults = failed;
+      written = more;
+      publishes = counts;
+    }
+
+-- one step more
+pub goes_one_more : (start : Moment) (old new : List Step) (e : Step) (fresh fresh' : Option Fresh) (faults faults' written written' publishes publishes' : ℕ) → new ≡ old ++ e ∷ [] → faults ≤ faults' → written ≤ written' → publishes ≤ publishes'
+    → GoesOn (state_of start old fresh faults written publishes) (state_of start new fresh' faults' written' publishes')
+goes_one_more start old new e fresh fresh' faults faults' written written' publishes publishes' noted = goes_on start old new e fresh fresh' faults faults' written written' publishes publishes' (inl noted)
+
+-- no step more
+pub goes_no_more : (start : Moment) (old new : List Step) (fresh fresh' : Option Fresh) (faults faults' written written' publishes publishes' : ℕ) → new ≡ old → faults ≤ faults' → written ≤ written' → publishes ≤ publishes'
+    → GoesOn (state_of start old fresh faults written publishes) (state_of start new fresh' faults' written' publishes')
+goes_no_more start old new fresh fresh' faults faults' written written' publishes publishes' same = goes_on start old new kept fresh fresh' faults faults' written written' publishes publishes' (inr same)

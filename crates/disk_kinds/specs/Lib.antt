@@ -1,0 +1,4 @@
+pub mod CallLog
+pub mod History
+pub mod Memory
+pub mod Replay
