@@ -1,9 +1,11 @@
 -- A call of a disk in memory notes one step at most, so time goes on.
-use Rattle.std.proofs.Common.{◌≡◌, ◌⊎◌, inl, inr, ⊎_elim, ℕ, ◌≤◌, Option, refl, [], ◌∷◌, ◌++◌, length, List, ap, sym, subst, arith, length-append}
+use Rattle.std.proofs.Common.{◌≡◌, ◌⊎◌, inl, inr, ⊎_elim, ℕ, ◌≤◌, Option, refl, [], ◌∷◌, ◌++◌, length, List, ap, sym, ◌∙◌, subst, arith, length-append}
 use Rattle.base_core.specs.CrashImages.{GoesOn, Image, Fresh}
-use Rattle.disk_kinds.specs.Replay.{LeftSince, replay_keeps, replay_adds, replay_counts, replay_earlier, after}
+use Rattle.base_core.specs.DiskCalls.{DiskCall}
+use Rattle.std.proofs.lemmas.List.Sums.{fold-append}
+use Rattle.disk_kinds.specs.Replay.{LeftSince, replay_now, replay_keeps, replay_adds, replay_counts, replay_earlier, after}
 use Rattle.disk_kinds.specs.Memory.{state_of}
-use Rattle.disk_kinds.specs.History.{Moment, Step, kept, moment_step, IsImage, mark_of}
+use Rattle.disk_kinds.specs.History.{Moment, Step, kept, moment_step, moment_after, IsImage, mark_of}
 
 module _ (start : Moment) where
   abbrev Left : List Step → ℕ → Image → ℕ → Type 0
@@ -57,3 +59,23 @@ goes_one_more start old new e fresh fresh' faults faults' written written' publi
 pub goes_no_more : (start : Moment) (old new : List Step) (fresh fresh' : Option Fresh) (faults faults' written written' publishes publishes' : ℕ) → new ≡ old → faults ≤ faults' → written ≤ written' → publishes ≤ publishes'
     → GoesOn (state_of start old fresh faults written publishes) (state_of start new fresh' faults' written' publishes')
 goes_no_more start old new fresh fresh' faults faults' written written' publishes publishes' same = goes_on start old new kept fresh fresh' faults faults' written written' publishes publishes' (inr same)
+
+-- one step more is played after all others
+pub after_one : (start : Moment) (old new : List Step) (e : Step) → new ≡ old ++ e ∷ [] → moment_after start new ≡ moment_step (moment_after start old) e
+after_one start old new e noted = ap (λ (es : List Step). moment_after start es) noted ∙ fold-append moment_step start old (e ∷ [])
+
+-- a call that notes one step and keeps the mark leaves what could be left just before it or just after it
+pub call_one_more : (start : Moment) (old new : List Step) (e : Step) (fresh fresh' : Option Fresh) (faults faults' written written' publishes publishes' : ℕ) → new ≡ old ++ e ∷ [] → (moment_step (moment_after start old) e).mark ≡ (moment_after start old).mark
+    → DiskCall (state_of start old fresh faults written publishes) (state_of start new fresh' faults' written' publishes')
+call_one_more start old new e fresh fresh' faults faults' written written' publishes publishes' noted kept_mark =
+    subst (λ (es : List Step). DiskCall (state_of start old fresh faults written publishes) (state_of start es fresh' faults' written' publishes')) (sym noted) (record {
+      mark = same_mark;
+      each = record { each = λ c n left. ⊎_elim (before c n) (λ now. (now.1 ∙ same_mark, inr now.0)) (replay_adds moment_step IsImage mark_of start old e (length old) c n left) };
+      stands = λ same. absurd (omega (arith, same, length-append old (e ∷ [])));
+    })
+  where
+    same_mark : (moment_after start (old ++ e ∷ [])).mark ≡ (moment_after start old).mark
+    same_mark = ap mark_of (after_one start old (old ++ e ∷ []) e refl) ∙ kept_mark
+
+    before : (c : Image) (n : ℕ) → LeftSince moment_step IsImage mark_of start old (length old) c n → (n ≡ (moment_after start old).mark) × (IsImage (moment_after start old) c ⊎ IsImage (moment_after start (old ++ e ∷ [])) c)
+    before c n was = let now = replay_now moment_step IsImage mark_of start old c n was in (now.1, inl now.0)
