@@ -1,11 +1,12 @@
 -- A call of a disk in memory notes one step at most, so time goes on.
-use Rattle.std.proofs.Common.{◌≡◌, ◌⊎◌, inl, inr, ⊎_elim, ℕ, ◌≤◌, Option, refl, [], ◌∷◌, ◌++◌, length, List, ap, sym, ◌∙◌, subst, arith, length-append}
-use Rattle.base_core.specs.CrashImages.{GoesOn, Image, Fresh}
+use Rattle.std.proofs.Common.{◌≡◌, ◌⊎◌, inl, inr, ⊎_elim, ℕ, ◌+◌, ◌≤◌, Option, Some, refl, [], ◌∷◌, ◌++◌, length, List, ap, sym, ◌∙◌, subst, arith, length-append}
+use Rattle.base_core.specs.CrashImages.{GoesOn, Image, Fresh, LeavesOnly}
 use Rattle.base_core.specs.DiskCalls.{DiskCall}
+use Rattle.base_core.specs.HostCalls.{TellKeeps}
 use Rattle.std.proofs.lemmas.List.Sums.{fold-append}
 use Rattle.disk_kinds.specs.Replay.{LeftSince, replay_now, replay_keeps, replay_adds, replay_counts, replay_earlier, after}
 use Rattle.disk_kinds.specs.Memory.{state_of}
-use Rattle.disk_kinds.specs.History.{Moment, Step, kept, moment_step, moment_after, IsImage, mark_of}
+use Rattle.disk_kinds.specs.History.{Moment, Step, kept, output, moment_step, moment_after, IsImage, mark_of}
 
 module _ (start : Moment) where
   abbrev Left : List Step → ℕ → Image → ℕ → Type 0
@@ -79,3 +80,43 @@ call_one_more start old new e fresh fresh' faults faults' written written' publi
 
     before : (c : Image) (n : ℕ) → LeftSince moment_step IsImage mark_of start old (length old) c n → (n ≡ (moment_after start old).mark) × (IsImage (moment_after start old) c ⊎ IsImage (moment_after start (old ++ e ∷ [])) c)
     before c n was = let now = replay_now moment_step IsImage mark_of start old c n was in (now.1, inl now.0)
+
+-- a tell notes one step, and leaves what could be left before with a mark from the old one to the new one
+pub tell_one_more : (start : Moment) (old new : List Step) (count : ℕ) (fresh fresh' : Option Fresh) (faults faults' written written' publishes publishes' : ℕ) → new ≡ old ++ output count ∷ []
+    → LeavesOnly (state_of start old fresh faults written publishes) (state_of start new fresh' faults' written' publishes') (λ c n. IsImage (moment_after start old) c × ((moment_after start old).mark ≤ n) × (n ≤ (moment_after start new).mark))
+tell_one_more start old new count fresh fresh' faults faults' written written' publishes publishes' noted =
+    subst (λ (es : List Step). LeavesOnly (state_of start old fresh faults written publishes) (state_of start es fresh' faults' written' publishes') (λ c n. IsImage (moment_after start old) c × ((moment_after start old).mark ≤ n) × (n ≤ (moment_after start es).mark))) (sym noted)
+    (record { each = λ c n left. ⊎_elim (before c n) (now c n) (replay_adds moment_step IsImage mark_of start old (output count) (length old) c n left) })
+  where
+    played : moment_after start (old ++ output count ∷ []) ≡ moment_step (moment_after start old) (output count)
+    played = after_one start old (old ++ output count ∷ []) (output count) refl
+
+    moved : (moment_after start (old ++ output count ∷ [])).mark ≡ (moment_after start old).mark + count
+    moved = ap mark_of played
+
+    before : (c : Image) (n : ℕ) → LeftSince moment_step IsImage mark_of start old (length old) c n → IsImage (moment_after start old) c × ((moment_after start old).mark ≤ n) × (n ≤ (moment_after start (old ++ output count ∷ [])).mark)
+    before c n was = let left = replay_now moment_step IsImage mark_of start old c n was in (left.0, omega (arith, left.1), omega (arith, left.1, moved))
+
+    now : (c : Image) (n : ℕ) → IsImage (moment_after start (old ++ output count ∷ [])) c × (n ≡ mark_of (moment_after start (old ++ output count ∷ []))) → IsImage (moment_after start old) c × ((moment_after start old).mark ≤ n) × (n ≤ (moment_after start (old ++ output count ∷ [])).mark)
+    now c n left = (subst (λ (m : Moment). IsImage m c) played left.0, omega (arith, left.1, moved), omega (arith, left.1))
+
+-- with one step more the clock rises
+pub clock_rises : (old new : List Step) (e : Step) → new ≡ old ++ e ∷ [] → length new ≡ length old → ⊥
+clock_rises old new e noted same = absurd (omega (arith, same, ap length noted, length-append old (e ∷ [])))
+
+pub tell_marks : (start : Moment) (old new : List Step) (count : ℕ) → new ≡ old ++ output count ∷ [] → (moment_after start new).mark ≡ (moment_after start old).mark + count
+tell_marks start old new count noted = ap mark_of (after_one start old new (output count) noted)
+
+pub tell_keeps : (start : Moment) (old new : List Step) (count : ℕ) (fresh : Option Fresh) (faults faults' written publishes : ℕ) → new ≡ old ++ output count ∷ [] → TellKeeps (state_of start old fresh faults written publishes) (state_of start new fresh faults' written publishes)
+tell_keeps start old new count fresh faults faults' written publishes noted =
+    let played : moment_after start new ≡ moment_step (moment_after start old) (output count) = after_one start old new (output count) noted in
+    record {
+      reads = ap (λ (m : Moment). Some m.reads) played;
+      leaves = record {
+        no_more = λ c left. subst (λ (m : Moment). IsImage m c) played left;
+        no_less = λ c left. subst (λ (m : Moment). IsImage m c) (sym played) left;
+      };
+      fresh = refl;
+      written = refl;
+      publishes = refl;
+    }

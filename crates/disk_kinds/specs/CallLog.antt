@@ -50,17 +50,17 @@ pub record NotesStep (step : Step) (cost : ℕ) (old new : CallLog) : Type 0 whe
   pub fails : new.fails.items ≡ old.fails.items
 
 -- a call that is served: its step is noted
-pub record Serves (step : Step) (cost : ℕ) (old new : CallLog) : Type 0 where
+pub record Serves (listed : Type 0) (step : Step) (cost : ℕ) (old new : CallLog) : Type 0 where
   pub steps : log_steps new ≡ log_steps old ++ step ∷ []
   pub left : log_left new + cost ≡ log_left old
-  pub unlisted : IsListed old → ⊥
+  pub unlisted : listed → ⊥
   pub faults : new.faults ≡ old.faults
 
 -- a call that fails by the list: its step is noted too
-pub record FailsByList (step : Step) (cost : ℕ) (old new : CallLog) : Type 0 where
+pub record FailsByList (listed : Type 0) (step : Step) (cost : ℕ) (old new : CallLog) : Type 0 where
   pub steps : log_steps new ≡ log_steps old ++ step ∷ []
   pub left : log_left new + cost ≡ log_left old
-  pub listed : IsListed old
+  pub by_list : listed
   pub fault : CountsFault old new
 
 -- a call that finds no room: nothing is noted
@@ -70,11 +70,11 @@ pub record LacksRoom (cost : ℕ) (old new : CallLog) : Type 0 where
   pub lacks : log_left old < cost
   pub fault : CountsFault old new
 
--- what a call notes and takes, by what becomes of it
-abbrev pub Becomes : Step → Step → ℕ → CallLog → CallLog → Admission → Type 0
-Becomes done failed cost old new Served = Serves done cost old new
-Becomes done failed cost old new Listed = FailsByList failed cost old new
-Becomes done failed cost old new NoRoom = LacksRoom cost old new
+-- what a call notes and takes, by what becomes of it, where `listed` says that its number is on the list
+abbrev pub Becomes : Type 0 → Step → Step → ℕ → CallLog → CallLog → Admission → Type 0
+Becomes listed done failed cost old new Served = Serves listed done cost old new
+Becomes listed done failed cost old new Listed = FailsByList listed failed cost old new
+Becomes listed done failed cost old new NoRoom = LacksRoom cost old new
 
 -- a call that only reads: it notes nothing, and fails by the list alone
 pub record ReadsOnly {T E : Type 0} (old new : CallLog) (result : Result T E) : Type 0 where
@@ -82,3 +82,10 @@ pub record ReadsOnly {T E : Type 0} (old new : CallLog) (result : Result T E) : 
   pub left : log_left new ≡ log_left old
   pub served : OnOk result (new.faults ≡ old.faults)
   pub fault : OnErr result (CountsFault old new)
+
+-- a failure is counted, and nothing else happens
+pub record Refuses (old new : CallLog) : Type 0 where
+  pub steps : log_steps new ≡ log_steps old
+  pub left : log_left new ≡ log_left old
+  pub calls : new.calls ≡ old.calls
+  pub fault : CountsFault old new

@@ -60,8 +60,8 @@ pub(crate) fn is_listed(fails: &[u64], number: u64) -> bool
 
 impl CallLog {
     ghost use Rattle.std.specs.Prelude.{[], IsErr};
-    ghost use Rattle.disk_kinds.specs.History.{step_of, new_extended};
-    ghost use Rattle.disk_kinds.specs.CallLog.{IsNewLog, SameBounds, NotesStep, Becomes, ReadsOnly, IsListed, log_left, log_next};
+    ghost use Rattle.disk_kinds.specs.History.{step_of, new_extended, output};
+    ghost use Rattle.disk_kinds.specs.CallLog.{IsNewLog, SameBounds, NotesStep, Becomes, ReadsOnly, Refuses, IsListed, log_left, log_next};
 
     pub(crate) fn new(alloc: Global, room: u64, fails: &[u64]) -> Result<CallLog, NoMemory>
         ensures { IfOk result (λ log. IsNewLog log room fails.now) }
@@ -127,7 +127,7 @@ impl CallLog {
     pub(crate) fn call(&mut self, done: Event, failed: Event) -> Admission
         requires done { size_of done ≡ 0 }
         requires failed { size_of failed ≡ 0 }
-        ensures becomes { Becomes (step_of done []) (step_of failed []) 64 self.old self.new result }
+        ensures becomes { Becomes (IsListed self.old) (step_of done []) (step_of failed []) 64 self.old self.new result }
         ensures next { self.new.calls ≡ log_next self.old }
         ensures bounds { SameBounds self.old self.new }
     {
@@ -147,7 +147,7 @@ impl CallLog {
 
     /// Counts a call that adds bytes to the new file. They are noted where it fails by the list too.
     pub(crate) fn call_with_bytes(&mut self, bytes: &[u8]) -> Admission
-        ensures becomes { Becomes (new_extended bytes.now) (new_extended bytes.now) (64 + length bytes.now) self.old self.new result }
+        ensures becomes { Becomes (IsListed self.old) (new_extended bytes.now) (new_extended bytes.now) (64 + length bytes.now) self.old self.new result }
         ensures next { self.new.calls ≡ log_next self.old }
         ensures bounds { SameBounds self.old self.new }
     {
@@ -162,5 +162,32 @@ impl CallLog {
             return Admission::Listed;
         }
         Admission::Served
+    }
+
+    /// Notes that a host around the disk tells so many bytes, or none where its list has the tell.
+    pub(crate) fn tell(&mut self, count: u64, listed: bool) -> Admission
+        ensures becomes { Becomes (IsTrue listed) (output count) (output 0) 64 self.old self.new result }
+        ensures calls { self.new.calls ≡ self.old.calls }
+        ensures bounds { SameBounds self.old self.new }
+    {
+        if !self.has_room(0) {
+            self.faults = self.faults.saturating_add(1);
+            return Admission::NoRoom;
+        }
+        if listed {
+            self.note(Event::Told(0));
+            self.faults = self.faults.saturating_add(1);
+            return Admission::Listed;
+        }
+        self.note(Event::Told(count));
+        Admission::Served
+    }
+
+    /// Counts a failure of the host around the disk.
+    pub(crate) fn refuse(&mut self)
+        ensures refuses { Refuses self.old self.new }
+        ensures bounds { SameBounds self.old self.new }
+    {
+        self.faults = self.faults.saturating_add(1);
     }
 }

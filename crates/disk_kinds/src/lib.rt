@@ -3,6 +3,8 @@
 
 mod buffers;
 mod call_log;
+mod mem_host;
 mod memory;
 
+pub use mem_host::MemHost;
 pub use memory::{Counts, MemDisk};

@@ -296,3 +296,34 @@ impl Disk for MemDisk {
         }
     }
 }
+
+impl MemDisk {
+    ghost use Rattle.std.specs.Prelude.{◌↔◌, ◌⊎◌, ◌<◌, IsTrue, IsErr};
+    ghost use Rattle.base_core.specs.Causes.{HasCause};
+    ghost use Rattle.disk_kinds.specs.Memory.{mem_state, record_left, Takes, NotesTell};
+
+    // A tell of the host around the disk: it tells so many bytes, unless the host's list has it.
+    pub(crate) fn note_tell(&mut self, count: u64, listed: bool) -> Result<(), Failed>
+        ensures exactly { IsErr result ↔ (IsTrue listed ⊎ (record_left self.old < 64)) }
+        ensures takes { Takes self.old self.new 64 }
+        ensures tell { NotesTell self.old self.new count result }
+        ensures cause { HasCause (mem_state self.old).faults (mem_state self.new).faults result }
+    {
+        match self.log.tell(count, listed) {
+            Admission::Served => Ok(()),
+            Admission::Listed => Err(Failed),
+            Admission::NoRoom => Err(Failed),
+        }
+    }
+
+    // A tell of the host around the disk that the host has no room for.
+    pub(crate) fn refuse_tell(&mut self) -> Result<(), Failed>
+        ensures fails { IsErr result }
+        ensures takes { record_left self.new ≡ record_left self.old }
+        ensures tell { NotesTell self.old self.new 0 result }
+        ensures cause { HasCause (mem_state self.old).faults (mem_state self.new).faults result }
+    {
+        self.log.refuse();
+        Err(Failed)
+    }
+}
