@@ -1,5 +1,5 @@
 -- A publish that failed: the file reads as before, and a crash leaves it with or without the new file in its place.
-use Rattle.std.proofs.Common.{◌≡◌, inl, inr, ⊎_elim, ℕ, List, [], ◌∷◌, ◌++◌, Some, None, refl, sym, ◌∙◌, ap, subst}
+use Rattle.std.proofs.Common.{◌≡◌, inl, inr, ⊎_elim, ℕ, List, [], ◌∷◌, ◌++◌, Some, refl, sym, ◌∙◌, ap, subst}
 use Rattle.base_core.specs.CrashImages.{Image}
 use Rattle.base_core.specs.DiskCalls.{new_image}
 use Rattle.disk_kinds.specs.History.{Moment, Landing, replaced, publish_pending, moment_step, moment_after, first_moment, start_image, LeftBy, IsImage, fresh_of}

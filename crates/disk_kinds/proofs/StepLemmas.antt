@@ -1,5 +1,5 @@
 -- One event more is one step more.
-use Rattle.std.proofs.Common.{◌≡◌, ℕ, ◌+◌, ◌≤◌, ◌-◌, ◌∷◌, [], ◌++◌, append-nil, List, length, take, drop, refl, sym, ◌∙◌, ap, arith, length-drop, length-append}
+use Rattle.std.proofs.Common.{◌≡◌, ℕ, ◌+◌, ◌≤◌, ◌∷◌, [], ◌++◌, append-nil, List, length, drop, refl, sym, ◌∙◌, ap, arith, length-drop}
 use Rattle.std.proofs.lemmas.List.{take-append-le, drop-append-le, take_all}
 use Rattle.disk_kinds.specs.declared.call_log.Event.{Event}
 use Rattle.disk_kinds.specs.declared.call_log.Event.TheVariants.{Kept, Began, Appended, Synced, Published, PublishPending, Told}

@@ -1,7 +1,7 @@
 -- A disk in memory as its trait sees it, and when its calls fail.
 use Rattle.std.specs.Prelude.{◌≡◌, ◌⊎◌, ℕ, ◌+◌, ◌-◌, ◌<◌, ◌≤◌, ◌^◌, min, List, Option, Some, Result, OnOk, OnErr, Contains, length}
 use Rattle.std.proofs.Common.{inl, refl}
-use Rattle.base_core.specs.CrashImages.{Image, Fresh, DiskState, IsMoment, GoesOn, LeavesOnly, LeavesSame}
+use Rattle.base_core.specs.CrashImages.{Image, Fresh, DiskState, IsMoment, GoesOn, LeavesOnly}
 use Rattle.base_core.specs.DiskCalls.{new_image}
 use Rattle.base_core.specs.HostCalls.{TellKeeps}
 use Rattle.base_core.specs.Time.{goes_same, goes_then}

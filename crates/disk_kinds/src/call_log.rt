@@ -105,7 +105,8 @@ impl CallLog {
         ensures { NotesStep (new_extended bytes.now) (64 + length bytes.now) self.old self.new }
     {
         let _ = self.bytes.extend_from_slice(bytes);
-        self.events.push_reserved(Event::Appended(bytes.len() as u64));
+        self.events
+            .push_reserved(Event::Appended(bytes.len() as u64));
     }
 
     /// Counts a call that only reads.

@@ -1,5 +1,5 @@
-use Rattle.std.proofs.Common.{◌≡◌, ap, ◌∙◌, arith, rules, length}
-use Rattle.disk_kinds.specs.History.{Step, total_size, steps_of}
+use Rattle.std.proofs.Common.{ap, ◌∙◌, arith, rules}
+use Rattle.disk_kinds.specs.History.{total_size, steps_of}
 use Rattle.disk_kinds.proofs.StepLemmas.{total_size-append, steps-bare}
 use Rattle.disk_kinds.proofs.call_log.CallLog.note.Goals as goal
 

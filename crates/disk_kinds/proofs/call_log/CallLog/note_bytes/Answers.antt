@@ -1,5 +1,5 @@
 use Rattle.std.proofs.Common.{◌≡◌, ◌++◌, ◌∷◌, [], ap, ◌∙◌, arith, rules, length, length-append}
-use Rattle.disk_kinds.specs.History.{Step, total_size, steps_of}
+use Rattle.disk_kinds.specs.History.{total_size, steps_of}
 use Rattle.disk_kinds.specs.declared.call_log.Event.TheVariants.{Appended}
 use Rattle.disk_kinds.proofs.StepLemmas.{total_size-append, steps-bytes}
 use Rattle.disk_kinds.proofs.call_log.CallLog.note_bytes.Goals as goal
