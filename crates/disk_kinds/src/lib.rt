@@ -8,3 +8,6 @@ mod memory;
 
 pub use mem_host::MemHost;
 pub use memory::{Counts, MemDisk};
+
+#[cfg(test)]
+mod tests;
