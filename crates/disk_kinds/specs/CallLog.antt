@@ -6,6 +6,7 @@ use Rattle.disk_kinds.specs.declared.call_log.CallLog.{CallLog}
 use Rattle.disk_kinds.specs.declared.call_log.Admission.{Admission}
 use Rattle.disk_kinds.specs.declared.call_log.Admission.TheVariants.{Served, Listed, NoRoom}
 
+-- the past that the record tells
 abbrev pub log_steps : CallLog → List Step
 log_steps log = steps_of log.events.items log.bytes.items
 

@@ -24,6 +24,7 @@ abbrev pub size_of : Event → ℕ
 size_of (Appended count) = count
 size_of _ = 0
 
+-- how many bytes of the record these events have for their own
 abbrev pub total_size : List Event → ℕ
 total_size [] = 0
 total_size (e ∷ events) = size_of e + total_size events
@@ -59,6 +60,7 @@ pub record Moment : Type 0 where
 abbrev pub first_moment : Image → Moment
 first_moment image = record { reads = image; base = image; pending = []; mark = 0; new_bytes = [] }
 
+-- what one step changes
 abbrev pub moment_step : Moment → Step → Moment
 moment_step m kept = m
 moment_step m new_begun = record m { new_bytes = [] }
@@ -72,17 +74,20 @@ moment_step m (output count) = record m { mark = m.mark + count }
 abbrev pub Happens : Landing → Image → Image → Type 0
 Happens (replaced bytes) before now = (now ≡ before) ⊎ (now ≡ Some bytes)
 
+-- an image on the disk for sure, with some of the landings since
 abbrev pub LeftBy : Image → List Landing → Image → Type 0
 LeftBy base [] c = c ≡ base
 LeftBy base (landing ∷ pending) c = (d : Image) × LeftBy base pending d × Happens landing d c
 
--- what a crash leaves: what is read, or what was on the disk for sure with some of the landings since
+-- what a crash may leave: what is read, or an image on the disk for sure with some of the landings since
 abbrev pub IsImage : Moment → Image → Type 0
 IsImage m c = (c ≡ m.reads) ⊎ LeftBy m.base m.pending c
 
+-- the bytes told by a moment
 abbrev pub mark_of : Moment → ℕ
 mark_of m = m.mark
 
+-- what stands after all these steps
 abbrev pub moment_after : Moment → List Step → Moment
 moment_after start steps = after moment_step IsImage mark_of start steps
 
@@ -91,6 +96,7 @@ abbrev pub image_of : Bool → List ℕ → Image
 image_of true bytes = Some bytes
 image_of false bytes = None
 
+-- the main file that a disk began with
 abbrev pub start_image : Option (Vec ℕ Global) → Image
 start_image None = None
 start_image (Some bytes) = Some bytes.items
@@ -105,6 +111,7 @@ abbrev pub FitsIn : ℕ → Option (Bor (List ℕ)) → Type 0
 FitsIn room None = Unit {0}
 FitsIn room (Some bytes) = length bytes.now ≤ room
 
+-- the new file as the disk's state has it
 abbrev pub fresh_of : NewFile → List ℕ → Option Fresh
 fresh_of Absent bytes = None
 fresh_of Begun bytes = Some (record { bytes = bytes; is_synced = false })

@@ -11,6 +11,7 @@ use Rattle.disk_kinds.specs.declared.mem_host.MemHost.{MemHost}
 abbrev pub disk_of : MemHost → MemDisk
 disk_of h = h.disk
 
+-- what that disk reads, may leave and counts
 abbrev pub host_state : MemHost → DiskState
 host_state h = mem_state h.disk
 
@@ -19,6 +20,7 @@ abbrev pub warned_whole : Bool → List ℕ → Option (List ℕ)
 warned_whole true bytes = None
 warned_whole false bytes = Some bytes
 
+-- what was told and warned
 abbrev pub host_streams : MemHost → HostState
 host_streams h = record { told = Some h.told.items; warned = warned_whole h.is_cut h.warned.items; tell_faults = h.tell_faults }
 
@@ -34,13 +36,15 @@ tell_fail_list h = h.tell_fails.items
 abbrev pub next_tell : MemHost → ℕ
 next_tell h = min (h.tells + 1) (2 ^ 64 - 1)
 
--- how many bytes each of the two streams has room for in all, and how many are left
+-- how many bytes each of the two streams has room for in all
 abbrev pub stream_room : MemHost → ℕ
 stream_room h = h.room
 
+-- how many more bytes can be told
 abbrev pub told_left : MemHost → ℕ
 told_left h = h.room - vec_len h.told
 
+-- how many more bytes can be kept of what is warned
 abbrev pub warned_left : MemHost → ℕ
 warned_left h = h.room - vec_len h.warned
 
@@ -68,6 +72,7 @@ pub record HostDiskRest (old new : MemHost) : Type 0 where
   pub warned : warned_kept new ≡ warned_kept old
   pub tells : next_tell new ≡ next_tell old
 
+-- what steps keep of a host passes on from step to step
 pub host_rest_same : (h : MemHost) → HostRest h h
 host_rest_same h = record { disk = mem_rest_same h.disk; fails = refl; room = refl }
 

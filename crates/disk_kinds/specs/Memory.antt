@@ -26,9 +26,11 @@ state_of start steps fresh faults written publishes =
       publishes = publishes;
     }
 
+-- what the disk reads, may leave and counts
 abbrev pub mem_state : MemDisk → DiskState
 mem_state d = state_of (first_moment (start_image d.start)) (log_steps d.log) (fresh_of d.new_file d.new_bytes.items) d.log.faults d.written d.publishes
 
+-- the laws of each state
 pub mem_moment : (d : MemDisk) → IsMoment (mem_state d)
 mem_moment d =
     let start = first_moment (start_image d.start) in
@@ -48,10 +50,11 @@ fail_list d = d.log.fails.items
 abbrev pub next_call : MemDisk → ℕ
 next_call d = log_next d.log
 
--- how many bytes the record of calls has room for in all, and how many are left
+-- how many bytes the record of calls has room for in all
 abbrev pub record_room : MemDisk → ℕ
 record_room d = d.log.room
 
+-- how many bytes of it are left
 abbrev pub record_left : MemDisk → ℕ
 record_left d = log_left d.log
 
@@ -91,6 +94,7 @@ pub record NotesTell {T E : Type 0} (old new : MemDisk) (count : ℕ) (result : 
   pub next : next_call new ≡ next_call old
   pub rest : MemRest old new
 
+-- what steps keep of a disk passes on from step to step
 pub mem_rest_same : (d : MemDisk) → MemRest d d
 mem_rest_same d = record { time = goes_same (mem_state d); fails = refl; room = refl }
 

@@ -14,6 +14,7 @@ pub(crate) fn with_room<T: Copy>(alloc: Global, room: u64) -> Result<Vec<T>, NoM
     }
 }
 
+// A copy of the items.
 pub(crate) fn copied<T: Copy>(alloc: Global, items: &[T]) -> Result<Vec<T>, NoMemory>
     ensures { IfOk result (λ v. v.items ≡ items.now) }
 {
