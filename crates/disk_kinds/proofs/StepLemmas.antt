@@ -1,0 +1,40 @@
+-- One event more is one step more.
+use Rattle.std.proofs.Common.{◌≡◌, ℕ, ◌+◌, ◌≤◌, ◌∷◌, [], ◌++◌, append-nil, List, length, drop, refl, sym, ◌∙◌, ap, arith, length-drop}
+use Rattle.std.proofs.lemmas.List.{take-append-le, drop-append-le, take_all}
+use Rattle.disk_kinds.specs.declared.call_log.Event.{Event}
+use Rattle.disk_kinds.specs.declared.call_log.Event.TheVariants.{Kept, Began, Appended, Synced, Published, PublishPending, Told}
+use Rattle.disk_kinds.specs.History.{Step, new_extended, size_of, total_size, step_of, steps_of}
+
+-- an event reads only its own bytes
+step_front : (e : Event) (bytes more : List ℕ) → size_of e ≤ length bytes → step_of e (bytes ++ more) ≡ step_of e bytes
+step_front Kept bytes more fits = refl
+step_front Began bytes more fits = refl
+step_front (Appended count) bytes more fits = ap new_extended (take-append-le count bytes more fits)
+step_front Synced bytes more fits = refl
+step_front Published bytes more fits = refl
+step_front PublishPending bytes more fits = refl
+step_front (Told count) bytes more fits = refl
+
+pub steps-append : (events : List Event) (e : Event) (bytes more : List ℕ) → total_size events ≡ length bytes → size_of e ≡ length more → steps_of (events ++ e ∷ []) (bytes ++ more) ≡ steps_of events bytes ++ step_of e more ∷ []
+steps-append [] e [] more same size = refl
+steps-append [] e (b ∷ bytes) more same size = absurd (omega arith)
+steps-append (f ∷ events) e bytes more same size =
+    let left : total_size events ≡ length (drop (size_of f) bytes) = omega (arith, length-drop (size_of f) bytes) in
+    let rest : drop (size_of f) (bytes ++ more) ≡ drop (size_of f) bytes ++ more = drop-append-le (size_of f) bytes more (omega arith) in
+    ap (λ (s : Step). s ∷ steps_of (events ++ e ∷ []) (drop (size_of f) (bytes ++ more))) (step_front f bytes more (omega arith))
+    ∙ ap (λ (l : List ℕ). step_of f bytes ∷ steps_of (events ++ e ∷ []) l) rest
+    ∙ ap (λ (l : List Step). step_of f bytes ∷ l) (steps-append events e (drop (size_of f) bytes) more left size)
+
+pub total_size-append : (events : List Event) (e : Event) → total_size (events ++ e ∷ []) ≡ total_size events + size_of e
+total_size-append [] e = omega arith
+total_size-append (f ∷ events) e = omega (arith, total_size-append events e)
+
+-- an event without bytes
+pub steps-bare : (events : List Event) (e : Event) (bytes : List ℕ) → total_size events ≡ length bytes → size_of e ≡ 0 → steps_of (events ++ e ∷ []) bytes ≡ steps_of events bytes ++ step_of e [] ∷ []
+steps-bare events e bytes same bare = ap (λ (l : List ℕ). steps_of (events ++ e ∷ []) l) (sym (append-nil bytes)) ∙ steps-append events e bytes [] same bare
+
+-- bytes that are added
+pub steps-bytes : (events : List Event) (bytes more : List ℕ) → total_size events ≡ length bytes → steps_of (events ++ Appended (length more) ∷ []) (bytes ++ more) ≡ steps_of events bytes ++ new_extended more ∷ []
+steps-bytes events bytes more same =
+    steps-append events (Appended (length more)) bytes more same refl
+    ∙ ap (λ (l : List ℕ). steps_of events bytes ++ new_extended l ∷ []) (take_all (length more) more (omega arith))

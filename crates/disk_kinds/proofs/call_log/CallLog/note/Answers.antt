@@ -1,0 +1,21 @@
+use Rattle.std.proofs.Common.{ap, ◌∙◌, arith, rules}
+use Rattle.disk_kinds.specs.History.{total_size, steps_of}
+use Rattle.disk_kinds.proofs.StepLemmas.{total_size-append, steps-bare}
+use Rattle.disk_kinds.proofs.call_log.CallLog.note.Goals as goal
+
+pub invariant_of-self-clause-sizes : goal.invariant_of-self-clause-sizes
+invariant_of-self-clause-sizes c =
+    ap total_size c.push_reserved.ensures.items
+    ∙ total_size-append c.args.self.now.events.items c.args.event
+    ∙ omega (arith, c.requires.bare, c.args.self.now.sizes)
+
+pub returns : goal.returns
+returns c = record {
+  steps = ap (λ l. steps_of l c.args.self.now.bytes.items) c.push_reserved.ensures.items
+      ∙ steps-bare c.args.self.now.events.items c.args.event c.args.self.now.bytes.items c.args.self.now.sizes c.requires.bare;
+  left = search rules;
+  calls = search rules;
+  faults = search rules;
+  room = search rules;
+  fails = search rules;
+}

@@ -1,0 +1,5 @@
+pub mod CallLog
+pub mod History
+pub mod MemHost
+pub mod Memory
+pub mod Replay

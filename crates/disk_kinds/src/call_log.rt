@@ -1,0 +1,194 @@
+// The record of calls of a disk in memory: which number each has, and what it did.
+ghost use Rattle.std.specs.Prelude.{◌≡◌, ◌↔◌, ◌+◌, ◌*◌, ◌≤◌, length, vec_len, vec_capacity, IsTrue, IfOk, Contains};
+ghost use Rattle.disk_kinds.specs.History.{total_size, size_of};
+
+use crate::buffers::{copied, with_room};
+use base_core::{Failed, NoMemory};
+use std::alloc::Global;
+
+/// A step of the past. The bytes that an event has for its own lie in the record.
+#[derive(Clone, Copy, Debug, PartialEq, Eq)]
+pub enum Event {
+    /// Nothing of the disk changed.
+    Kept,
+    /// A new file was begun.
+    Began,
+    /// So many bytes were added to the new file.
+    Appended(u64),
+    /// The main file was synced.
+    Synced,
+    /// The new file took the main file's place.
+    Published,
+    /// The new file may have taken the main file's place, or not.
+    PublishPending,
+    /// The host around the disk told so many bytes.
+    Told(u64),
+}
+
+/// What becomes of a call.
+#[derive(Clone, Copy, Debug, PartialEq, Eq)]
+pub enum Admission {
+    /// It does what it is to do.
+    Served,
+    /// It fails by the list.
+    Listed,
+    /// It fails, since the record has no room for it.
+    NoRoom,
+}
+
+/// A record of calls with room for so many bytes, all of them taken at once.
+#[derive(Drop)]
+pub struct CallLog {
+    events: Vec<Event>,
+    bytes: Vec<u8>,
+    fails: Vec<u64>,
+    calls: u64,
+    faults: u64,
+    room: u64,
+    ghost has_events: { room ≤ 64 * vec_capacity events + 63 },
+    ghost has_bytes: { room ≤ vec_capacity bytes },
+    ghost fits: { 64 * vec_len events + vec_len bytes ≤ room },
+    ghost sizes: { total_size events.items ≡ length bytes.items },
+}
+
+// Whether the number is on the list.
+pub(crate) fn is_listed(fails: &[u64], number: u64) -> bool
+    ensures { IsTrue result ↔ Contains fails.now number }
+{
+    fails.contains(&number)
+}
+
+impl CallLog {
+    ghost use Rattle.std.specs.Prelude.{[], IsErr};
+    ghost use Rattle.disk_kinds.specs.History.{step_of, new_extended, output};
+    ghost use Rattle.disk_kinds.specs.CallLog.{IsNewLog, SameBounds, NotesStep, Becomes, ReadsOnly, Refuses, IsListed, log_left, log_next};
+
+    pub(crate) fn new(alloc: Global, room: u64, fails: &[u64]) -> Result<CallLog, NoMemory>
+        ensures { IfOk result (λ log. IsNewLog log room fails.now) }
+    {
+        Ok(CallLog {
+            events: with_room(alloc, room / 64)?,
+            bytes: with_room(alloc, room)?,
+            fails: copied(alloc, fails)?,
+            calls: 0,
+            faults: 0,
+            room,
+        })
+    }
+
+    pub(crate) fn faults(&self) -> u64
+        ensures { result ≡ self.now.faults }
+    {
+        self.faults
+    }
+
+    // Whether there is room for a call with so many bytes of its own.
+    fn has_room(&self, bytes: usize) -> bool
+        ensures { IsTrue result ↔ (64 + bytes ≤ log_left self.now) }
+    {
+        let left = self.room as usize - (64 * self.events.len() + self.bytes.len());
+        left >= 64 && left - 64 >= bytes
+    }
+
+    // Notes an event without bytes.
+    fn note(&mut self, event: Event)
+        requires room { 64 ≤ log_left self.old }
+        requires bare { size_of event ≡ 0 }
+        ensures { NotesStep (step_of event []) 64 self.old self.new }
+    {
+        self.events.push_reserved(event);
+    }
+
+    // Notes bytes that are added to the new file.
+    fn note_bytes(&mut self, bytes: &[u8])
+        requires room { 64 + length bytes.now ≤ log_left self.old }
+        ensures { NotesStep (new_extended bytes.now) (64 + length bytes.now) self.old self.new }
+    {
+        let _ = self.bytes.extend_from_slice(bytes);
+        self.events
+            .push_reserved(Event::Appended(bytes.len() as u64));
+    }
+
+    /// Counts a call that only reads.
+    pub(crate) fn count_read(&mut self) -> Result<(), Failed>
+        ensures exactly { IsErr result ↔ IsListed self.old }
+        ensures next { self.new.calls ≡ log_next self.old }
+        ensures bounds { SameBounds self.old self.new }
+        ensures reads { ReadsOnly self.old self.new result }
+    {
+        self.calls = self.calls.saturating_add(1);
+        if is_listed(&self.fails, self.calls) {
+            self.faults = self.faults.saturating_add(1);
+            return Err(Failed);
+        }
+        Ok(())
+    }
+
+    /// Counts a call, and notes what it does, or what it does where it fails by the list.
+    pub(crate) fn call(&mut self, done: Event, failed: Event) -> Admission
+        requires done { size_of done ≡ 0 }
+        requires failed { size_of failed ≡ 0 }
+        ensures becomes { Becomes (IsListed self.old) (step_of done []) (step_of failed []) 64 self.old self.new result }
+        ensures next { self.new.calls ≡ log_next self.old }
+        ensures bounds { SameBounds self.old self.new }
+    {
+        self.calls = self.calls.saturating_add(1);
+        if !self.has_room(0) {
+            self.faults = self.faults.saturating_add(1);
+            return Admission::NoRoom;
+        }
+        if is_listed(&self.fails, self.calls) {
+            self.note(failed);
+            self.faults = self.faults.saturating_add(1);
+            return Admission::Listed;
+        }
+        self.note(done);
+        Admission::Served
+    }
+
+    /// Counts a call that adds bytes to the new file. They are noted where it fails by the list too.
+    pub(crate) fn call_with_bytes(&mut self, bytes: &[u8]) -> Admission
+        ensures becomes { Becomes (IsListed self.old) (new_extended bytes.now) (new_extended bytes.now) (64 + length bytes.now) self.old self.new result }
+        ensures next { self.new.calls ≡ log_next self.old }
+        ensures bounds { SameBounds self.old self.new }
+    {
+        self.calls = self.calls.saturating_add(1);
+        if !self.has_room(bytes.len()) {
+            self.faults = self.faults.saturating_add(1);
+            return Admission::NoRoom;
+        }
+        self.note_bytes(bytes);
+        if is_listed(&self.fails, self.calls) {
+            self.faults = self.faults.saturating_add(1);
+            return Admission::Listed;
+        }
+        Admission::Served
+    }
+
+    /// Notes that a host around the disk tells so many bytes, or none where its list has the tell.
+    pub(crate) fn tell(&mut self, count: u64, listed: bool) -> Admission
+        ensures becomes { Becomes (IsTrue listed) (output count) (output 0) 64 self.old self.new result }
+        ensures calls { self.new.calls ≡ self.old.calls }
+        ensures bounds { SameBounds self.old self.new }
+    {
+        if !self.has_room(0) {
+            self.faults = self.faults.saturating_add(1);
+            return Admission::NoRoom;
+        }
+        if listed {
+            self.note(Event::Told(0));
+            self.faults = self.faults.saturating_add(1);
+            return Admission::Listed;
+        }
+        self.note(Event::Told(count));
+        Admission::Served
+    }
+
+    /// Counts a failure of the host around the disk.
+    pub(crate) fn refuse(&mut self)
+        ensures refuses { Refuses self.old self.new }
+        ensures bounds { SameBounds self.old self.new }
+    {
+        self.faults = self.faults.saturating_add(1);
+    }
+}

@@ -1,0 +1,329 @@
+// A disk in memory. It keeps a record of its calls, by which its past is told.
+ghost use Rattle.std.specs.Prelude.{◌≡◌, ◌+◌, ◌≤◌, vec_len, vec_capacity};
+ghost use Rattle.disk_kinds.specs.CallLog.{log_left, log_steps};
+ghost use Rattle.disk_kinds.specs.History.{first_moment, moment_after, start_image, image_of};
+
+use crate::buffers::{copied, with_room};
+use crate::call_log::{Admission, CallLog, Event};
+use base_core::{Disk, Failed, NoMemory};
+use std::alloc::Global;
+use std::mem;
+
+/// How often something was done to a disk.
+#[derive(Clone, Copy, Debug, PartialEq, Eq)]
+pub struct Counts {
+    /// Calls that failed, the tells of a host around the disk among them.
+    pub faults: u64,
+    /// Bytes passed to writes into the main file.
+    pub written: u64,
+    /// Calls of `publish`.
+    pub publishes: u64,
+}
+
+/// The new file beside the main file.
+#[derive(Clone, Copy, Debug, PartialEq, Eq)]
+pub enum NewFile {
+    /// There is none.
+    Absent,
+    /// It is not synced.
+    Begun,
+    /// All of it is synced.
+    Whole,
+}
+
+/// A disk in memory, which takes all its memory at once and has a list of the calls that are to fail.
+///
+/// The calls of `Disk` count from 1. A call answers `Failed` exactly where its number is on the list
+/// or its record of calls has no room for it. In the record `length` and `read_at` take nothing; every
+/// other call takes 64 bytes, and `new_write` its own bytes besides. A call on the list takes its room
+/// as any other does; a call without room takes none.
+#[derive(Drop)]
+pub struct MemDisk {
+    start: Option<Vec<u8>>,
+    main: Vec<u8>,
+    has_main: bool,
+    new_bytes: Vec<u8>,
+    new_file: NewFile,
+    log: CallLog,
+    written: u64,
+    publishes: u64,
+    ghost main_is: { image_of has_main main.items ≡ (moment_after (first_moment (start_image start)) (log_steps log)).reads },
+    ghost new_is: { new_bytes.items ≡ (moment_after (first_moment (start_image start)) (log_steps log)).new_bytes },
+    ghost new_fits: { vec_len new_bytes + log_left log ≤ log.room },
+    ghost main_room: { log.room ≤ vec_capacity main },
+    ghost new_room: { log.room ≤ vec_capacity new_bytes },
+}
+
+impl MemDisk {
+    ghost use Rattle.std.specs.Prelude.{Some, None, IfOk};
+    ghost use Rattle.base_core.specs.CrashImages.{IsDurable};
+    ghost use Rattle.disk_kinds.specs.History.{FitsIn, given_image};
+    ghost use Rattle.disk_kinds.specs.Memory.{mem_state, fail_list, next_call, record_room, record_left};
+
+    /// A disk with this main file, all of it synced. It takes `room` bytes for each of its buffers, and
+    /// the calls with the numbers `fails` are to fail.
+    pub fn new(
+        alloc: Global,
+        main: Option<&[u8]>,
+        room: u64,
+        fails: &[u64],
+    ) -> Result<MemDisk, NoMemory>
+        requires { FitsIn room main }
+        ensures reads { IfOk result (λ d. (mem_state d).reads ≡ Some (given_image main.entry)) }
+        ensures durable { IfOk result (λ d. IsDurable (mem_state d)) }
+        ensures leaves { IfOk result (λ d. (mem_state d).leaves (given_image main.entry)) }
+        ensures starts { IfOk result (λ d. ((mem_state d).mark ≡ 0) × ((mem_state d).clock ≡ 0) × ((mem_state d).fresh ≡ None)) }
+        ensures counts { IfOk result (λ d. ((mem_state d).faults ≡ 0) × ((mem_state d).written ≡ 0) × ((mem_state d).publishes ≡ 0)) }
+        ensures fails { IfOk result (λ d. (fail_list d ≡ fails.now) × (next_call d ≡ 1)) }
+        ensures room { IfOk result (λ d. (record_room d ≡ room) × (record_left d ≡ room)) }
+    {
+        let log = CallLog::new(alloc, room, fails)?;
+        let new_bytes = with_room(alloc, room)?;
+        let mut buffer = with_room(alloc, room)?;
+        let start = match main {
+            Some(bytes) => Some(copied(alloc, bytes)?),
+            None => None,
+        };
+        if let Some(bytes) = &start {
+            let _ = buffer.extend_from_slice(bytes);
+        }
+        Ok(MemDisk {
+            has_main: start.is_some(),
+            start,
+            main: buffer,
+            new_bytes,
+            new_file: NewFile::Absent,
+            log,
+            written: 0,
+            publishes: 0,
+        })
+    }
+
+    /// What the main file reads.
+    pub fn main(&self) -> Option<&[u8]>
+        ensures { Some (given_image result) ≡ (mem_state self.now).reads }
+    {
+        if self.has_main {
+            Some(self.main.as_slice())
+        } else {
+            None
+        }
+    }
+
+    /// The counts of the disk.
+    pub fn counts(&self) -> Counts
+        ensures faults { result.faults ≡ (mem_state self.now).faults }
+        ensures written { result.written ≡ (mem_state self.now).written }
+        ensures publishes { result.publishes ≡ (mem_state self.now).publishes }
+    {
+        Counts {
+            faults: self.log.faults(),
+            written: self.written,
+            publishes: self.publishes,
+        }
+    }
+}
+
+impl Disk for MemDisk {
+    ghost use Rattle.std.specs.Option.{option_map};
+    ghost use Rattle.std.specs.Prelude.{◌↔◌, ◌<◌, ◌^◌, ◌-◌, ℕ, min, length, take, drop, List, Some, None, IsSome, IsErr, IfOk, OnOk, OnErr};
+    ghost use Rattle.base_core.specs.Causes.{HasCause};
+    ghost use Rattle.base_core.specs.CrashImages.{Image, KeepsMain};
+    ghost use Rattle.base_core.specs.DiskCalls.{DiskCall, IsLength, HasByteAt, begun, appended, synced, IsWhole, Syncs, Publishes};
+    ghost use Rattle.disk_kinds.specs.Memory.{mem_state, mem_moment, MemRest, mem_rest_same, mem_rest_then, CannotServe, CountsCall, PublishPends};
+
+    ghost state = { mem_state };
+
+    ghost disk_rest = { MemRest };
+
+    ghost is_moment = { mem_moment };
+
+    ghost rest_same = { mem_rest_same };
+
+    ghost rest_then = { mem_rest_then };
+
+    ghost rest_goes_on = { λ a b rest. rest.time };
+
+    fn length(&mut self) -> Result<Option<u64>, Failed>
+        ensures exactly { IsErr result ↔ CannotServe self.old 0 }
+        ensures counts { CountsCall self.old self.new 0 }
+        ensures length { IfOk result (λ length. (main : Image) → (mem_state self.old).reads ≡ Some main → IsLength main length) }
+        ensures main { KeepsMain (mem_state self.old) (mem_state self.new) }
+        ensures fresh { (mem_state self.new).fresh ≡ (mem_state self.old).fresh }
+        ensures call { DiskCall (mem_state self.old) (mem_state self.new) }
+        ensures cause { HasCause (mem_state self.old).faults (mem_state self.new).faults result }
+        ensures rest { MemRest self.old self.new }
+    {
+        self.log.count_read()?;
+        if self.has_main {
+            Ok(Some(self.main.len() as u64))
+        } else {
+            Ok(None)
+        }
+    }
+
+    fn read_at(&mut self, at: u64, into: &mut [u8]) -> Result<usize, Failed>
+        requires { IsSome (mem_state self.old).reads → HasByteAt (mem_state self.old).reads at }
+        ensures exactly { IsErr result ↔ CannotServe self.old 0 }
+        ensures counts { CountsCall self.old self.new 0 }
+        ensures bytes { IfOk result (λ count. (b : List ℕ) → (mem_state self.old).reads ≡ Some (Some b) → take count into.new ≡ take count (drop at b)) }
+        ensures bound { IfOk result (λ count. (count ≤ length into.new) × (0 < length into.new → 0 < count)) }
+        ensures main { KeepsMain (mem_state self.old) (mem_state self.new) }
+        ensures fresh { (mem_state self.new).fresh ≡ (mem_state self.old).fresh }
+        ensures call { DiskCall (mem_state self.old) (mem_state self.new) }
+        ensures cause { HasCause (mem_state self.old).faults (mem_state self.new).faults result }
+        ensures rest { MemRest self.old self.new }
+    {
+        self.log.count_read()?;
+        let rest = &self.main[at as usize..];
+        let count = rest.len().min(into.len());
+        into[..count].copy_from_slice(&rest[..count]);
+        Ok(count)
+    }
+
+    fn sync(&mut self) -> Result<(), Failed>
+        requires { (mem_state self.old).reads ≡ Some None → ⊥ }
+        ensures exactly { IsErr result ↔ CannotServe self.old 64 }
+        ensures counts { CountsCall self.old self.new 64 }
+        ensures sync { Syncs (mem_state self.old) (mem_state self.new) result }
+        ensures failed { OnErr result (KeepsMain (mem_state self.old) (mem_state self.new)) }
+        ensures call { DiskCall (mem_state self.old) (mem_state self.new) }
+        ensures cause { HasCause (mem_state self.old).faults (mem_state self.new).faults result }
+        ensures rest { MemRest self.old self.new }
+    {
+        match self.log.call(Event::Synced, Event::Kept) {
+            Admission::Served => Ok(()),
+            Admission::Listed => Err(Failed),
+            Admission::NoRoom => Err(Failed),
+        }
+    }
+
+    fn new_start(&mut self) -> Result<(), Failed>
+        ensures exactly { IsErr result ↔ CannotServe self.old 64 }
+        ensures counts { CountsCall self.old self.new 64 }
+        ensures started { OnOk result ((mem_state self.new).fresh ≡ Some begun) }
+        ensures failed { OnErr result ((mem_state self.new).fresh ≡ None) }
+        ensures main { KeepsMain (mem_state self.old) (mem_state self.new) }
+        ensures call { DiskCall (mem_state self.old) (mem_state self.new) }
+        ensures cause { HasCause (mem_state self.old).faults (mem_state self.new).faults result }
+        ensures rest { MemRest self.old self.new }
+    {
+        self.new_file = NewFile::Absent;
+        match self.log.call(Event::Began, Event::Began) {
+            Admission::Served => {
+                self.new_bytes.clear();
+                self.new_file = NewFile::Begun;
+                Ok(())
+            }
+            Admission::Listed => {
+                self.new_bytes.clear();
+                Err(Failed)
+            }
+            Admission::NoRoom => Err(Failed),
+        }
+    }
+
+    fn new_write(&mut self, bytes: &[u8]) -> Result<(), Failed>
+        requires { IsSome (mem_state self.old).reads → IsSome (mem_state self.old).fresh }
+        ensures exactly { IsErr result ↔ CannotServe self.old (64 + length bytes.now) }
+        ensures counts { CountsCall self.old self.new (64 + length bytes.now) }
+        ensures written { OnOk result ((mem_state self.new).fresh ≡ option_map (λ f. appended f bytes.now) (mem_state self.old).fresh) }
+        ensures failed { OnErr result ((mem_state self.new).fresh ≡ None) }
+        ensures main { KeepsMain (mem_state self.old) (mem_state self.new) }
+        ensures call { DiskCall (mem_state self.old) (mem_state self.new) }
+        ensures cause { HasCause (mem_state self.old).faults (mem_state self.new).faults result }
+        ensures rest { MemRest self.old self.new }
+    {
+        self.new_file = NewFile::Absent;
+        match self.log.call_with_bytes(bytes) {
+            Admission::Served => {
+                let _ = self.new_bytes.extend_from_slice(bytes);
+                self.new_file = NewFile::Begun;
+                Ok(())
+            }
+            Admission::Listed => {
+                let _ = self.new_bytes.extend_from_slice(bytes);
+                Err(Failed)
+            }
+            Admission::NoRoom => Err(Failed),
+        }
+    }
+
+    fn new_sync(&mut self) -> Result<(), Failed>
+        requires { IsSome (mem_state self.old).reads → IsSome (mem_state self.old).fresh }
+        ensures exactly { IsErr result ↔ CannotServe self.old 64 }
+        ensures counts { CountsCall self.old self.new 64 }
+        ensures synced { OnOk result ((mem_state self.new).fresh ≡ option_map synced (mem_state self.old).fresh) }
+        ensures failed { OnErr result ((mem_state self.new).fresh ≡ None) }
+        ensures main { KeepsMain (mem_state self.old) (mem_state self.new) }
+        ensures call { DiskCall (mem_state self.old) (mem_state self.new) }
+        ensures cause { HasCause (mem_state self.old).faults (mem_state self.new).faults result }
+        ensures rest { MemRest self.old self.new }
+    {
+        self.new_file = NewFile::Absent;
+        match self.log.call(Event::Kept, Event::Kept) {
+            Admission::Served => {
+                self.new_file = NewFile::Whole;
+                Ok(())
+            }
+            Admission::Listed => Err(Failed),
+            Admission::NoRoom => Err(Failed),
+        }
+    }
+
+    fn publish(&mut self) -> Result<(), Failed>
+        requires { IsSome (mem_state self.old).reads → IsWhole (mem_state self.old).fresh }
+        ensures exactly { IsErr result ↔ CannotServe self.old 64 }
+        ensures counts { CountsCall self.old self.new 64 }
+        ensures publish { Publishes (mem_state self.old) (mem_state self.new) result }
+        ensures publishes { (mem_state self.new).publishes ≡ min ((mem_state self.old).publishes + 1) (2 ^ 64 - 1) }
+        ensures pends { OnErr result (PublishPends self.old self.new) }
+        ensures call { DiskCall (mem_state self.old) (mem_state self.new) }
+        ensures cause { HasCause (mem_state self.old).faults (mem_state self.new).faults result }
+        ensures rest { MemRest self.old self.new }
+    {
+        self.new_file = NewFile::Absent;
+        self.publishes = self.publishes.saturating_add(1);
+        match self.log.call(Event::Published, Event::PublishPending) {
+            Admission::Served => {
+                mem::swap(&mut self.main, &mut self.new_bytes);
+                self.new_bytes.clear();
+                self.has_main = true;
+                Ok(())
+            }
+            Admission::Listed => Err(Failed),
+            Admission::NoRoom => Err(Failed),
+        }
+    }
+}
+
+impl MemDisk {
+    ghost use Rattle.std.specs.Prelude.{◌↔◌, ◌⊎◌, ◌<◌, IsTrue, IsErr};
+    ghost use Rattle.base_core.specs.Causes.{HasCause};
+    ghost use Rattle.disk_kinds.specs.Memory.{mem_state, record_left, Takes, NotesTell};
+
+    // A tell of the host around the disk: it tells so many bytes, unless the host's list has it.
+    pub(crate) fn note_tell(&mut self, count: u64, listed: bool) -> Result<(), Failed>
+        ensures exactly { IsErr result ↔ (IsTrue listed ⊎ (record_left self.old < 64)) }
+        ensures takes { Takes self.old self.new 64 }
+        ensures tell { NotesTell self.old self.new count result }
+        ensures cause { HasCause (mem_state self.old).faults (mem_state self.new).faults result }
+    {
+        match self.log.tell(count, listed) {
+            Admission::Served => Ok(()),
+            Admission::Listed => Err(Failed),
+            Admission::NoRoom => Err(Failed),
+        }
+    }
+
+    // A tell of the host around the disk that the host has no room for.
+    pub(crate) fn refuse_tell(&mut self) -> Result<(), Failed>
+        ensures fails { IsErr result }
+        ensures takes { record_left self.new ≡ record_left self.old }
+        ensures tell { NotesTell self.old self.new 0 result }
+        ensures cause { HasCause (mem_state self.old).faults (mem_state self.new).faults result }
+    {
+        self.log.refuse();
+        Err(Failed)
+    }
+}
