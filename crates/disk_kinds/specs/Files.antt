@@ -1,5 +1,5 @@
 -- What the real devices tell: how often they failed and published, and nothing of their contents.
-use Rattle.std.specs.Prelude.{ℕ, None}
+use Rattle.std.specs.Prelude.{ℕ, ◌+◌, ◌-◌, ◌^◌, min, None}
 use Rattle.base_core.specs.CrashImages.{DiskState, IsMoment}
 use Rattle.base_core.specs.HostCalls.{HostState}
 
@@ -11,6 +11,10 @@ pub record FileCounts : Type 0 where
 -- no call was made yet
 abbrev pub no_calls : FileCounts
 no_calls = record { faults = 0; publishes = 0 }
+
+-- the next count, which stands still at the greatest number of 64 bits
+abbrev pub counted_on : ℕ → ℕ
+counted_on count = min (count + 1) (2 ^ 64 - 1)
 
 -- A real disk tells its counts, and nothing of what it reads or may leave. It writes nothing into its main file.
 abbrev pub untold : FileCounts → DiskState

@@ -3,7 +3,8 @@ ghost use Rattle.std.specs.Prelude.{◌≡◌, IsErr, MatchResult};
 ghost use Rattle.base_core.specs.Causes.{HasCause};
 ghost use Rattle.base_core.specs.CrashImages.{GoesOn};
 ghost use Rattle.base_core.specs.Time.{goes_same, goes_then};
-ghost use Rattle.disk_kinds.specs.Files.{no_calls, untold, untold_moment};
+ghost use Rattle.base_core.specs.DiskCalls.{DiskCall, Publishes};
+ghost use Rattle.disk_kinds.specs.Files.{counted_on, no_calls, untold, untold_moment};
 
 use crate::real::{MainFile, NewFile};
 use base_core::{Disk, Failed, Text};
@@ -50,6 +51,7 @@ impl<R: Files + AllocGlobal + Drop> FileDisk<R> {
 // The answer without its error, which is counted.
 pub(crate) fn counted<T: Drop, E: Drop>(faults: &mut u64, answer: Result<T, E>) -> Result<T, Failed>
     ensures cause { HasCause faults.old faults.new result }
+    ensures count { MatchResult result (λ _. faults.new ≡ faults.old) (λ _. faults.new ≡ counted_on faults.old) }
     ensures value { MatchResult result (λ v. answer ≡ Ok v) (λ _. IsErr answer) }
 {
     match answer {
@@ -113,7 +115,13 @@ where
         counted(&mut self.faults, answer)
     }
 
-    fn publish(&mut self) -> Result<(), Failed> {
+    fn publish(&mut self) -> Result<(), Failed>
+        ensures publish { Publishes (untold self.old) (untold self.new) result }
+        ensures count { self.new.publishes ≡ counted_on self.old.publishes }
+        ensures call { DiskCall (untold self.old) (untold self.new) }
+        ensures cause { HasCause self.old.faults self.new.faults result }
+        ensures rest { GoesOn (untold self.old) (untold self.new) }
+    {
         self.publishes = self.publishes.saturating_add(1);
         self.main = MainFile::closed();
         let answer = publish_new(&self.rt, self.path.as_str(), self.fresh.take());

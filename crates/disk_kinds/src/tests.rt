@@ -1,1 +1,97 @@
+// The devices on real files. Each test starts in an empty folder.
+use crate::{FileDisk, FileHost};
+use base_core::{Disk, Failed, Host, Text};
+use std::fs::Permissions;
+use std::os::unix::fs::{MetadataExt, PermissionsExt, symlink};
+use std::process::Abort;
+use std::rt::Files;
+use std::test::Fail;
+use std::{fs, io};
 
+fn rewrite<D: Disk>(disk: &mut D, bytes: &[u8]) -> Result<(), Failed> {
+    disk.new_start()?;
+    disk.new_write(bytes)?;
+    disk.new_sync()?;
+    disk.publish()
+}
+
+// Asserts that the file has this text and these permission bits.
+fn assert_file<R: Files + Abort + AllocGlobal>(
+    rt: &R,
+    path: &str,
+    text: &str,
+    mode: u32,
+) -> Result<(), Fail> {
+    let found = fs::read_to_string(rt, path)?;
+    assert_eq!(rt; found.as_str(), text, "{path}");
+    assert_eq!(rt; mode_of(rt, path)?, mode, "{path}");
+    Ok(())
+}
+
+fn mode_of(rt: &impl Files, path: &str) -> io::Result<u32> {
+    Ok(fs::metadata(rt, path)?.mode() & 0o777)
+}
+
+#[test]
+fn disk_rewrites_a_file(rt: HostRuntime) -> Result<(), Fail> {
+    let mut disk = FileDisk::new(rt, Text::of(rt.alloc(), "db")?);
+    assert_eq!(rt; disk.length(), Ok(None));
+    assert_eq!(rt; rewrite(&mut disk, b"hello\n"), Ok(()));
+    fs::write(&rt, "usual", "")?;
+    let usual = mode_of(&rt, "usual")?;
+    assert_file(&rt, "db", "hello\n", usual)?;
+
+    assert_eq!(rt; disk.length(), Ok(Some(6)));
+    assert_eq!(rt; disk.sync(), Ok(()));
+    let mut all = [0u8; 8];
+    assert_eq!(rt; disk.read_at(2, &mut all), Ok(4));
+    assert_eq!(rt; all, *b"llo\n\0\0\0\0");
+    assert_eq!(rt; disk.read_at(6, &mut all), Err(Failed), "past the end");
+    assert_eq!(rt; disk.read_at(6, &mut []), Ok(0), "nothing is asked");
+
+    // A left-over new file is replaced, and a link at its name is not followed.
+    fs::set_permissions(&rt, "db", Permissions::from_mode(0o640))?;
+    fs::write(&rt, "db.NEW", "left over, and longer")?;
+    assert_eq!(rt; rewrite(&mut disk, b"second"), Ok(()));
+    assert_file(&rt, "db", "second", 0o640)?;
+    fs::set_permissions(&rt, "usual", Permissions::from_mode(0o600))?;
+    symlink(&rt, "usual", "db.NEW")?;
+    assert_eq!(rt; rewrite(&mut disk, b""), Ok(()));
+    assert_file(&rt, "db", "", 0o640)?;
+    assert_file(&rt, "usual", "", 0o600)?;
+    assert_eq!(rt; disk.length(), Ok(Some(0)));
+
+    // Without a new file nothing takes the main file's place.
+    fs::write(&rt, "db.NEW", "not ours")?;
+    assert_eq!(rt; disk.new_write(b"x"), Err(Failed));
+    assert_eq!(rt; disk.new_sync(), Err(Failed));
+    assert_eq!(rt; disk.publish(), Err(Failed));
+    assert_file(&rt, "db", "", 0o640)
+}
+
+#[test]
+fn host_refuses_what_is_no_file(rt: HostRuntime) -> Result<(), Fail> {
+    fs::create_dir(&rt, "folder")?;
+    fs::write(&rt, "file", "")?;
+    symlink(&rt, "nothing", "dangling")?;
+    let cases = [
+        ("folder", Err(Failed), Err(Failed)),
+        ("/dev/null", Err(Failed), Err(Failed)),
+        ("file/below", Err(Failed), Err(Failed)),
+        ("missing/db", Ok(None), Err(Failed)),
+        ("dangling", Ok(None), Ok(())),
+        ("folder/db", Ok(None), Ok(())),
+        ("file", Ok(Some(0)), Ok(())),
+    ];
+    for (path, length, start) in cases {
+        let mut host = FileHost::new(rt, Text::of(rt.alloc(), path)?);
+        assert_eq!(rt; host.length(), length, "{path}");
+        assert_eq!(rt; host.new_start(), start, "{path}");
+    }
+    let mut host = FileHost::new(rt, Text::of(rt.alloc(), "file")?);
+    assert_eq!(rt; rewrite(&mut host, b"bytes"), Ok(()));
+    assert_eq!(rt; host.length(), Ok(Some(5)));
+    assert_eq!(rt; host.tell(b"told \xff\n"), Ok(()));
+    host.warn(b"warned \xff\n");
+    Ok(())
+}
