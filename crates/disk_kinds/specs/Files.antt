@@ -13,8 +13,8 @@ abbrev pub no_calls : FileCounts
 no_calls = record { faults = 0; publishes = 0 }
 
 -- the next count, which stands still at the greatest number of 64 bits
-abbrev pub counted_on : ℕ → ℕ
-counted_on count = min (count + 1) (2 ^ 64 - 1)
+abbrev pub next_count : ℕ → ℕ
+next_count count = min (count + 1) (2 ^ 64 - 1)
 
 -- A real disk tells its counts, and nothing of what it reads or may leave. It writes nothing into its main file.
 abbrev pub untold : FileCounts → DiskState

@@ -1,11 +1,12 @@
 // A disk of two real files.
-ghost use Rattle.std.specs.Prelude.{◌≡◌, IsErr, MatchResult};
+ghost use Rattle.std.specs.Prelude.{◌≡◌};
 ghost use Rattle.base_core.specs.Causes.{HasCause};
 ghost use Rattle.base_core.specs.CrashImages.{GoesOn};
-ghost use Rattle.base_core.specs.Time.{goes_same, goes_then};
 ghost use Rattle.base_core.specs.DiskCalls.{DiskCall, Publishes};
-ghost use Rattle.disk_kinds.specs.Files.{counted_on, no_calls, untold, untold_moment};
+ghost use Rattle.base_core.specs.Time.{goes_same, goes_then};
+ghost use Rattle.disk_kinds.specs.Files.{next_count, no_calls, untold, untold_moment};
 
+use crate::faults::counted;
 use crate::real::{MainFile, NewFile};
 use base_core::{Disk, Failed, Text};
 use std::io::{self, ErrorKind};
@@ -13,7 +14,17 @@ use std::marker::Model;
 use std::os::unix::fs::FileExt;
 use std::rt::Files;
 
-/// A database in a file, and beside it the new file, whose name ends in `.NEW`.
+/// A database in a file, and beside it the new file, whose name is the path and `.NEW`.
+///
+/// Only a path where nothing is counts as absent. Each of these is a fault: what is at the path and no regular file,
+/// a file that may not be read and written, one that ends before its told length, and want of memory.
+///
+/// A link at the path is followed for reading, and `publish` puts a plain file in its place. The new file has the main
+/// file's permission bits, or those of any new file where there is none, and belongs to the user who runs the program.
+/// What stands at its name before is removed, or is a fault if it is a folder; a new file that was not published stays.
+/// `sync` and `publish` cover the folder of the path, so that the name is on the disk too.
+///
+/// Nothing here is proved of the files themselves: the contract speaks of the counts alone.
 #[derive(Drop)]
 pub struct FileDisk<R: Files + AllocGlobal + Drop> {
     pub(crate) rt: R,
@@ -48,30 +59,15 @@ impl<R: Files + AllocGlobal + Drop> FileDisk<R> {
     }
 }
 
-// The answer without its error, which is counted.
-pub(crate) fn counted<T: Drop, E: Drop>(faults: &mut u64, answer: Result<T, E>) -> Result<T, Failed>
-    ensures cause { HasCause faults.old faults.new result }
-    ensures count { MatchResult result (λ _. faults.new ≡ faults.old) (λ _. faults.new ≡ counted_on faults.old) }
-    ensures value { MatchResult result (λ v. answer ≡ Ok v) (λ _. IsErr answer) }
-{
-    match answer {
-        Ok(value) => Ok(value),
-        Err(_) => {
-            *faults = faults.saturating_add(1);
-            Err(Failed)
-        }
-    }
-}
-
 impl<R: Files + AllocGlobal + Drop> Disk for FileDisk<R>
 where
     R::File: FileExt,
 {
-    ghost state = { λ d. untold d };
+    ghost state = { untold };
 
     ghost disk_rest = { λ a b. GoesOn (untold a) (untold b) };
 
-    ghost is_moment = { λ d. untold_moment d };
+    ghost is_moment = { untold_moment };
 
     ghost rest_same = { λ a. goes_same (untold a) };
 
@@ -117,7 +113,7 @@ where
 
     fn publish(&mut self) -> Result<(), Failed>
         ensures publish { Publishes (untold self.old) (untold self.new) result }
-        ensures count { self.new.publishes ≡ counted_on self.old.publishes }
+        ensures count { self.new.publishes ≡ next_count self.old.publishes }
         ensures call { DiskCall (untold self.old) (untold self.new) }
         ensures cause { HasCause self.old.faults self.new.faults result }
         ensures rest { GoesOn (untold self.old) (untold self.new) }

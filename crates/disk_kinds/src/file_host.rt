@@ -5,7 +5,8 @@ ghost use Rattle.base_core.specs.CrashImages.{GoesOn};
 ghost use Rattle.base_core.specs.Time.{goes_same, goes_then};
 ghost use Rattle.disk_kinds.specs.Files.{no_calls, untold, untold_moment, untold_streams};
 
-use crate::file::{FileDisk, counted};
+use crate::faults::counted;
+use crate::file::FileDisk;
 use base_core::{Disk, Failed, Host, Text};
 use std::fmt;
 use std::io::{Eprint, Print};
@@ -13,7 +14,10 @@ use std::marker::Model;
 use std::os::unix::fs::FileExt;
 use std::rt::Files;
 
-/// A database in a file, with standard output and standard error.
+/// A database in a file, as [`FileDisk`] has it, with standard output and standard error.
+///
+/// `tell` prints bytes as they are. `warn` prints text: each run of bytes that is not UTF-8 is shown as U+FFFD, and a
+/// failure there passes unseen.
 #[derive(Drop)]
 pub struct FileHost<R: Files + AllocGlobal + Print + Eprint + Drop> {
     disk: FileDisk<R>,
@@ -114,7 +118,7 @@ where
     }
 }
 
-// Bytes as text: each run that is not UTF-8 is printed as U+FFFD.
+// Bytes as text.
 #[derive(Drop)]
 struct Lossy<'a> {
     bytes: &'a [u8],

@@ -1,6 +1,7 @@
 //! Devices that a program runs on: real files and the standard streams.
 #![tactic(auto)]
 
+mod faults;
 mod file;
 mod file_host;
 mod real;
