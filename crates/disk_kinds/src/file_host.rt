@@ -1,9 +1,11 @@
 // A host of two real files and the standard streams.
 ghost use Rattle.std.specs.Prelude.{◌≡◌};
 ghost use Rattle.std.proofs.Common.{refl, ap, ◌∙◌};
+ghost use Rattle.base_core.specs.Causes.{HasCause};
 ghost use Rattle.base_core.specs.CrashImages.{GoesOn};
+ghost use Rattle.base_core.specs.DiskCalls.{DiskCall, Publishes};
 ghost use Rattle.base_core.specs.Time.{goes_same, goes_then};
-ghost use Rattle.disk_kinds.specs.Files.{no_calls, untold, untold_moment, untold_streams};
+ghost use Rattle.disk_kinds.specs.Files.{next_count, no_calls, untold, untold_moment, untold_streams};
 
 use crate::faults::counted;
 use crate::file::FileDisk;
@@ -84,7 +86,13 @@ where
         self.disk.new_sync()
     }
 
-    fn publish(&mut self) -> Result<(), Failed> {
+    fn publish(&mut self) -> Result<(), Failed>
+        ensures publish { Publishes (untold self.old.disk) (untold self.new.disk) result }
+        ensures count { self.new.disk.publishes ≡ next_count self.old.disk.publishes }
+        ensures call { DiskCall (untold self.old.disk) (untold self.new.disk) }
+        ensures cause { HasCause self.old.disk.faults self.new.disk.faults result }
+        ensures rest { (self.new.tell_faults ≡ self.old.tell_faults) × GoesOn (untold self.old.disk) (untold self.new.disk) }
+    {
         self.disk.publish()
     }
 }

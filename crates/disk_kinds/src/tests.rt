@@ -36,6 +36,7 @@ fn mode_of(rt: &impl Files, path: &str) -> io::Result<u32> {
 fn disk_rewrites_a_file(rt: HostRuntime) -> Result<(), Fail> {
     let mut disk = FileDisk::new(rt, Text::of(rt.alloc(), "db")?);
     assert_eq!(rt; disk.length(), Ok(None));
+    assert_eq!(rt; disk.sync(), Err(Failed), "there is no file");
     assert_eq!(rt; rewrite(&mut disk, b"hello\n"), Ok(()));
     fs::write(&rt, "usual", "")?;
     let usual = mode_of(&rt, "usual")?;
@@ -75,17 +76,19 @@ fn host_refuses_what_is_no_file(rt: HostRuntime) -> Result<(), Fail> {
     fs::write(&rt, "file", "")?;
     symlink(&rt, "nothing", "dangling")?;
     let cases = [
-        ("folder", Err(Failed), Err(Failed)),
-        ("/dev/null", Err(Failed), Err(Failed)),
-        ("file/below", Err(Failed), Err(Failed)),
-        ("missing/db", Ok(None), Err(Failed)),
-        ("dangling", Ok(None), Ok(())),
-        ("folder/db", Ok(None), Ok(())),
-        ("file", Ok(Some(0)), Ok(())),
+        ("folder", Err(Failed), Err(Failed), Err(Failed)),
+        ("/dev/null", Err(Failed), Err(Failed), Err(Failed)),
+        ("file/below", Err(Failed), Err(Failed), Err(Failed)),
+        ("missing/db", Ok(None), Err(Failed), Err(Failed)),
+        ("dangling", Ok(None), Err(Failed), Ok(())),
+        ("folder/db", Ok(None), Err(Failed), Ok(())),
+        ("file", Ok(Some(0)), Ok(()), Ok(())),
     ];
-    for (path, length, start) in cases {
+    for (path, length, sync, start) in cases {
         let mut host = FileHost::new(rt, Text::of(rt.alloc(), path)?);
         assert_eq!(rt; host.length(), length, "{path}");
+        assert_eq!(rt; host.sync(), sync, "{path}");
+        assert_eq!(rt; host.new_sync(), Err(Failed), "{path}: before the start");
         assert_eq!(rt; host.new_start(), start, "{path}");
     }
     let mut host = FileHost::new(rt, Text::of(rt.alloc(), "file")?);
