@@ -33,41 +33,50 @@ fn mode_of(rt: &impl Files, path: &str) -> io::Result<u32> {
 }
 
 #[test]
-fn disk_rewrites_a_file(rt: HostRuntime) -> Result<(), Fail> {
+fn disk_writes_and_reads(rt: HostRuntime) -> Result<(), Fail> {
     let mut disk = FileDisk::new(rt, Text::of(rt.alloc(), "db")?);
     assert_eq!(rt; disk.length(), Ok(None));
     assert_eq!(rt; disk.sync(), Err(Failed), "there is no file");
     assert_eq!(rt; rewrite(&mut disk, b"hello\n"), Ok(()));
-    fs::write(&rt, "usual", "")?;
-    let usual = mode_of(&rt, "usual")?;
-    assert_file(&rt, "db", "hello\n", usual)?;
-
     assert_eq!(rt; disk.length(), Ok(Some(6)));
-    assert_eq!(rt; disk.sync(), Ok(()));
-    let mut all = [0u8; 8];
-    assert_eq!(rt; disk.read_at(2, &mut all), Ok(4));
-    assert_eq!(rt; all, *b"llo\n\0\0\0\0");
-    assert_eq!(rt; disk.read_at(6, &mut all), Err(Failed), "past the end");
+    let mut piece = [0u8; 8];
+    assert_eq!(rt; disk.read_at(2, &mut piece), Ok(4));
+    assert_eq!(rt; piece, *b"llo\n\0\0\0\0");
+    assert_eq!(rt; disk.read_at(6, &mut piece), Err(Failed), "past the end");
     assert_eq!(rt; disk.read_at(6, &mut []), Ok(0), "nothing is asked");
+    Ok(())
+}
 
-    // A left-over new file is replaced, and a link at its name is not followed.
-    fs::set_permissions(&rt, "db", Permissions::from_mode(0o640))?;
-    fs::write(&rt, "db.NEW", "left over, and longer")?;
+// A left-over new file, and another that is a link to the file `usual`.
+fn leave_files(rt: &impl Files) -> io::Result<()> {
+    fs::write(rt, "db", "old")?;
+    fs::set_permissions(rt, "db", Permissions::from_mode(0o640))?;
+    fs::write(rt, "db.NEW", "left over, and longer")?;
+    fs::write(rt, "usual", "usual")?;
+    symlink(rt, "usual", "other.NEW")
+}
+
+#[test]
+fn disk_replaces_what_is_left_over(rt: HostRuntime) -> Result<(), Fail> {
+    leave_files(&rt)?;
+    let mut disk = FileDisk::new(rt, Text::of(rt.alloc(), "db")?);
     assert_eq!(rt; rewrite(&mut disk, b"second"), Ok(()));
     assert_file(&rt, "db", "second", 0o640)?;
-    fs::set_permissions(&rt, "usual", Permissions::from_mode(0o600))?;
-    symlink(&rt, "usual", "db.NEW")?;
-    assert_eq!(rt; rewrite(&mut disk, b""), Ok(()));
-    assert_file(&rt, "db", "", 0o640)?;
-    assert_file(&rt, "usual", "", 0o600)?;
-    assert_eq!(rt; disk.length(), Ok(Some(0)));
+    let usual = mode_of(&rt, "usual")?;
+    let mut other = FileDisk::new(rt, Text::of(rt.alloc(), "other")?);
+    assert_eq!(rt; rewrite(&mut other, b"beside a link"), Ok(()));
+    assert_file(&rt, "other", "beside a link", usual)?;
+    assert_file(&rt, "usual", "usual", usual)
+}
 
-    // Without a new file nothing takes the main file's place.
-    fs::write(&rt, "db.NEW", "not ours")?;
+#[test]
+fn disk_publishes_its_own_file_only(rt: HostRuntime) -> Result<(), Fail> {
+    leave_files(&rt)?;
+    let mut disk = FileDisk::new(rt, Text::of(rt.alloc(), "db")?);
     assert_eq!(rt; disk.new_write(b"x"), Err(Failed));
     assert_eq!(rt; disk.new_sync(), Err(Failed));
     assert_eq!(rt; disk.publish(), Err(Failed));
-    assert_file(&rt, "db", "", 0o640)
+    assert_file(&rt, "db", "old", 0o640)
 }
 
 #[test]
@@ -91,7 +100,12 @@ fn host_refuses_what_is_no_file(rt: HostRuntime) -> Result<(), Fail> {
         assert_eq!(rt; host.new_sync(), Err(Failed), "{path}: before the start");
         assert_eq!(rt; host.new_start(), start, "{path}");
     }
-    let mut host = FileHost::new(rt, Text::of(rt.alloc(), "file")?);
+    Ok(())
+}
+
+#[test]
+fn host_rewrites_and_prints(rt: HostRuntime) -> Result<(), Fail> {
+    let mut host = FileHost::new(rt, Text::of(rt.alloc(), "db")?);
     assert_eq!(rt; rewrite(&mut host, b"bytes"), Ok(()));
     assert_eq!(rt; host.length(), Ok(Some(5)));
     assert_eq!(rt; host.tell(b"told \xff\n"), Ok(()));
