@@ -1,4 +1,4 @@
-// The devices on real files. Each test starts in an empty folder.
+// The devices on real files. Each test has names of its own, and finds none of them.
 use crate::{FileDisk, FileHost};
 use base_core::{Disk, Failed, Host, Text};
 use std::fs::Permissions;
@@ -34,7 +34,7 @@ fn mode_of(rt: &impl Files, path: &str) -> io::Result<u32> {
 
 #[test]
 fn disk_writes_and_reads(rt: HostRuntime) -> Result<(), Fail> {
-    let mut disk = FileDisk::new(rt, Text::of(rt.alloc(), "db")?);
+    let mut disk = FileDisk::new(rt, Text::of(rt.alloc(), "written")?);
     assert_eq!(rt; disk.length(), Ok(None));
     assert_eq!(rt; disk.sync(), Err(Failed), "there is no file");
     assert_eq!(rt; rewrite(&mut disk, b"hello\n"), Ok(()));
@@ -49,9 +49,9 @@ fn disk_writes_and_reads(rt: HostRuntime) -> Result<(), Fail> {
 
 // A left-over new file, and another that is a link to the file `usual`.
 fn leave_files(rt: &impl Files) -> io::Result<()> {
-    fs::write(rt, "db", "old")?;
-    fs::set_permissions(rt, "db", Permissions::from_mode(0o640))?;
-    fs::write(rt, "db.NEW", "left over, and longer")?;
+    fs::write(rt, "replaced", "old")?;
+    fs::set_permissions(rt, "replaced", Permissions::from_mode(0o640))?;
+    fs::write(rt, "replaced.NEW", "left over, and longer")?;
     fs::write(rt, "usual", "usual")?;
     symlink(rt, "usual", "other.NEW")
 }
@@ -59,9 +59,9 @@ fn leave_files(rt: &impl Files) -> io::Result<()> {
 #[test]
 fn disk_replaces_what_is_left_over(rt: HostRuntime) -> Result<(), Fail> {
     leave_files(&rt)?;
-    let mut disk = FileDisk::new(rt, Text::of(rt.alloc(), "db")?);
+    let mut disk = FileDisk::new(rt, Text::of(rt.alloc(), "replaced")?);
     assert_eq!(rt; rewrite(&mut disk, b"second"), Ok(()));
-    assert_file(&rt, "db", "second", 0o640)?;
+    assert_file(&rt, "replaced", "second", 0o640)?;
     let usual = mode_of(&rt, "usual")?;
     let mut other = FileDisk::new(rt, Text::of(rt.alloc(), "other")?);
     assert_eq!(rt; rewrite(&mut other, b"beside a link"), Ok(()));
@@ -71,12 +71,14 @@ fn disk_replaces_what_is_left_over(rt: HostRuntime) -> Result<(), Fail> {
 
 #[test]
 fn disk_publishes_its_own_file_only(rt: HostRuntime) -> Result<(), Fail> {
-    leave_files(&rt)?;
-    let mut disk = FileDisk::new(rt, Text::of(rt.alloc(), "db")?);
+    fs::write(&rt, "kept", "old")?;
+    fs::write(&rt, "kept.NEW", "not ours")?;
+    let usual = mode_of(&rt, "kept")?;
+    let mut disk = FileDisk::new(rt, Text::of(rt.alloc(), "kept")?);
     assert_eq!(rt; disk.new_write(b"x"), Err(Failed));
     assert_eq!(rt; disk.new_sync(), Err(Failed));
     assert_eq!(rt; disk.publish(), Err(Failed));
-    assert_file(&rt, "db", "old", 0o640)
+    assert_file(&rt, "kept", "old", usual)
 }
 
 #[test]
@@ -105,7 +107,7 @@ fn host_refuses_what_is_no_file(rt: HostRuntime) -> Result<(), Fail> {
 
 #[test]
 fn host_rewrites_and_prints(rt: HostRuntime) -> Result<(), Fail> {
-    let mut host = FileHost::new(rt, Text::of(rt.alloc(), "db")?);
+    let mut host = FileHost::new(rt, Text::of(rt.alloc(), "printed")?);
     assert_eq!(rt; rewrite(&mut host, b"bytes"), Ok(()));
     assert_eq!(rt; host.length(), Ok(Some(5)));
     assert_eq!(rt; host.tell(b"told \xff\n"), Ok(()));
