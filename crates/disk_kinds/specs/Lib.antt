@@ -1,4 +1,5 @@
 pub mod CallLog
+pub mod Files
 pub mod History
 pub mod MemHost
 pub mod Memory

@@ -2,7 +2,7 @@ use Rattle.std.proofs.Common.{◌≡◌, ℕ, ◌<◌, Option, Some, None, lengt
 use Rattle.std.specs.Prelude.{IsSome}
 use Rattle.base_core.specs.CrashImages.{Image}
 use Rattle.base_core.specs.DiskCalls.{HasByteAt, IsLength}
-use Rattle.disk_kinds.proofs.tests.read_and_sync.Goals as goal
+use Rattle.disk_kinds.proofs.tests.memory.read_and_sync.Goals as goal
 
 -- a file with a length above 0 is there, and has a first byte
 has_first : (reads : Option Image) (n : ℕ) → ((main : Image) → reads ≡ Some main → IsLength main (Some n)) → 0 < n → IsSome reads → HasByteAt reads 0

@@ -1,0 +1,49 @@
+-- What the real devices tell: how often they failed and published, and nothing of their contents.
+use Rattle.std.specs.Prelude.{ℕ, ◌+◌, ◌-◌, ◌^◌, min, None}
+use Rattle.base_core.specs.CrashImages.{DiskState, IsMoment}
+use Rattle.base_core.specs.HostCalls.{HostState}
+
+-- how often a call of a real disk failed, and how often its new file was to take the main file's place
+pub record FileCounts : Type 0 where
+  pub faults : ℕ
+  pub publishes : ℕ
+
+-- no call was made yet
+abbrev pub no_calls : FileCounts
+no_calls = record { faults = 0; publishes = 0 }
+
+-- the next count, which stands still at the greatest number of 64 bits
+abbrev pub next_count : ℕ → ℕ
+next_count count = min (count + 1) (2 ^ 64 - 1)
+
+-- A real disk tells its counts, and nothing of what it reads or may leave. It writes nothing into its main file.
+abbrev pub untold : FileCounts → DiskState
+untold counts = record {
+  reads = None;
+  leaves = λ _. ⊥;
+  clock = 0;
+  mark = 0;
+  left_since = λ _ _ _. ⊥;
+  fresh = None;
+  faults = counts.faults;
+  written = 0;
+  publishes = counts.publishes;
+}
+
+pub untold_moment : (counts : FileCounts) → IsMoment (untold counts)
+untold_moment counts = record {
+  now = λ c n left. absurd left;
+  counts_now = λ c left. left;
+  earlier = λ t u c n _ _ left. left;
+  reads_left = λ c is. cc;
+  tells = λ t c n left. absurd left;
+}
+
+-- the counts of a real host: those of its disk, and how often a tell failed
+pub record HostCounts : Type 0 where
+  pub disk : FileCounts
+  pub tell_faults : ℕ
+
+-- A real host tells nothing of what it printed.
+abbrev pub untold_streams : HostCounts → HostState
+untold_streams counts = record { told = None; warned = None; tell_faults = counts.tell_faults }

@@ -1,0 +1,116 @@
+// The devices on real files. Each test has names of its own, and finds none of them.
+use crate::{FileDisk, FileHost};
+use base_core::{Disk, Failed, Host, Text};
+use std::fs::Permissions;
+use std::os::unix::fs::{MetadataExt, PermissionsExt, symlink};
+use std::process::Abort;
+use std::rt::Files;
+use std::test::Fail;
+use std::{fs, io};
+
+fn rewrite<D: Disk>(disk: &mut D, bytes: &[u8]) -> Result<(), Failed> {
+    disk.new_start()?;
+    disk.new_write(bytes)?;
+    disk.new_sync()?;
+    disk.publish()
+}
+
+// Asserts that the file has this text and these permission bits.
+fn assert_file<R: Files + Abort + AllocGlobal>(
+    rt: &R,
+    path: &str,
+    text: &str,
+    mode: u32,
+) -> Result<(), Fail> {
+    let found = fs::read_to_string(rt, path)?;
+    assert_eq!(rt; found.as_str(), text, "{path}");
+    assert_eq!(rt; mode_of(rt, path)?, mode, "{path}");
+    Ok(())
+}
+
+fn mode_of(rt: &impl Files, path: &str) -> io::Result<u32> {
+    Ok(fs::metadata(rt, path)?.mode() & 0o777)
+}
+
+#[test]
+fn disk_writes_and_reads(rt: HostRuntime) -> Result<(), Fail> {
+    let mut disk = FileDisk::new(rt, Text::of(rt.alloc(), "written")?);
+    assert_eq!(rt; disk.length(), Ok(None));
+    assert_eq!(rt; disk.sync(), Err(Failed), "there is no file");
+    assert_eq!(rt; rewrite(&mut disk, b"hello\n"), Ok(()));
+    assert_eq!(rt; disk.length(), Ok(Some(6)));
+    let mut piece = [0u8; 8];
+    assert_eq!(rt; disk.read_at(2, &mut piece), Ok(4));
+    assert_eq!(rt; piece, *b"llo\n\0\0\0\0");
+    assert_eq!(rt; disk.read_at(6, &mut piece), Err(Failed), "past the end");
+    assert_eq!(rt; disk.read_at(6, &mut []), Ok(0), "nothing is asked");
+    Ok(())
+}
+
+// A left-over new file, and another that is a link to the file `usual`.
+fn leave_files(rt: &impl Files) -> io::Result<()> {
+    fs::write(rt, "replaced", "old")?;
+    fs::set_permissions(rt, "replaced", Permissions::from_mode(0o640))?;
+    fs::write(rt, "replaced.NEW", "left over, and longer")?;
+    fs::write(rt, "usual", "usual")?;
+    symlink(rt, "usual", "other.NEW")
+}
+
+#[test]
+fn disk_replaces_what_is_left_over(rt: HostRuntime) -> Result<(), Fail> {
+    leave_files(&rt)?;
+    let mut disk = FileDisk::new(rt, Text::of(rt.alloc(), "replaced")?);
+    assert_eq!(rt; rewrite(&mut disk, b"second"), Ok(()));
+    assert_file(&rt, "replaced", "second", 0o640)?;
+    let usual = mode_of(&rt, "usual")?;
+    let mut other = FileDisk::new(rt, Text::of(rt.alloc(), "other")?);
+    assert_eq!(rt; rewrite(&mut other, b"beside a link"), Ok(()));
+    assert_file(&rt, "other", "beside a link", usual)?;
+    assert_file(&rt, "usual", "usual", usual)
+}
+
+#[test]
+fn disk_publishes_its_own_file_only(rt: HostRuntime) -> Result<(), Fail> {
+    fs::write(&rt, "kept", "old")?;
+    fs::write(&rt, "kept.NEW", "not ours")?;
+    let usual = mode_of(&rt, "kept")?;
+    let mut disk = FileDisk::new(rt, Text::of(rt.alloc(), "kept")?);
+    assert_eq!(rt; disk.new_write(b"x"), Err(Failed));
+    assert_eq!(rt; disk.new_sync(), Err(Failed));
+    assert_eq!(rt; disk.publish(), Err(Failed));
+    assert_file(&rt, "kept", "old", usual)
+}
+
+#[test]
+fn host_refuses_what_is_no_file(rt: HostRuntime) -> Result<(), Fail> {
+    fs::create_dir(&rt, "folder")?;
+    fs::write(&rt, "file", "")?;
+    symlink(&rt, "nothing", "dangling")?;
+    let cases = [
+        ("folder", Err(Failed), Err(Failed), Err(Failed)),
+        ("/dev/null", Err(Failed), Err(Failed), Err(Failed)),
+        ("file/below", Err(Failed), Err(Failed), Err(Failed)),
+        ("missing/db", Ok(None), Err(Failed), Err(Failed)),
+        ("dangling", Ok(None), Err(Failed), Ok(())),
+        ("folder/db", Ok(None), Err(Failed), Ok(())),
+        ("file", Ok(Some(0)), Ok(()), Ok(())),
+    ];
+    for (path, length, sync, start) in cases {
+        let mut host = FileHost::new(rt, Text::of(rt.alloc(), path)?);
+        assert_eq!(rt; host.length(), length, "{path}");
+        assert_eq!(rt; host.sync(), sync, "{path}");
+        assert_eq!(rt; host.new_sync(), Err(Failed), "{path}: before the start");
+        assert_eq!(rt; host.new_start(), start, "{path}");
+    }
+    Ok(())
+}
+
+#[test]
+fn host_rewrites_and_prints(rt: HostRuntime) -> Result<(), Fail> {
+    let mut host = FileHost::new(rt, Text::of(rt.alloc(), "printed")?);
+    assert_eq!(rt; rewrite(&mut host, b"bytes"), Ok(()));
+    assert_eq!(rt; host.length(), Ok(Some(5)));
+    assert_eq!(rt; host.tell(b"told \xff\n"), Ok(()));
+    host.warn(b"warned \xff\n");
+    Ok(())
+}
