@@ -1,4 +1,4 @@
-// The devices on real files. Each test has names of its own, and finds none of them.
+// The devices on real files. Each test works in a folder of its own, and removes it at its end.
 use crate::{FileDisk, FileHost};
 use base_core::{Disk, Failed, Host, Text};
 use std::fs::Permissions;
@@ -28,13 +28,20 @@ fn assert_file<R: Files + Abort + AllocGlobal>(
     Ok(())
 }
 
+// Makes an empty folder, in the place of one that an earlier run may have left.
+fn begin(rt: &(impl Files + Alloc), folder: &str) -> io::Result<()> {
+    let _ = fs::remove_dir_all(rt, folder);
+    fs::create_dir(rt, folder)
+}
+
 fn mode_of(rt: &impl Files, path: &str) -> io::Result<u32> {
     Ok(fs::metadata(rt, path)?.mode() & 0o777)
 }
 
 #[test]
 fn disk_writes_and_reads(rt: HostRuntime) -> Result<(), Fail> {
-    let mut disk = FileDisk::new(rt, Text::of(rt.alloc(), "written")?);
+    begin(&rt, "writes")?;
+    let mut disk = FileDisk::new(rt, Text::of(rt.alloc(), "writes/db")?);
     assert_eq!(rt; disk.length(), Ok(None));
     assert_eq!(rt; disk.sync(), Err(Failed), "there is no file");
     assert_eq!(rt; rewrite(&mut disk, b"hello\n"), Ok(()));
@@ -44,56 +51,64 @@ fn disk_writes_and_reads(rt: HostRuntime) -> Result<(), Fail> {
     assert_eq!(rt; piece, *b"llo\n\0\0\0\0");
     assert_eq!(rt; disk.read_at(6, &mut piece), Err(Failed), "past the end");
     assert_eq!(rt; disk.read_at(6, &mut []), Ok(0), "nothing is asked");
+    fs::remove_dir_all(&rt, "writes")?;
     Ok(())
 }
 
 // A left-over new file, and another that is a link to the file `usual`.
-fn leave_files(rt: &impl Files) -> io::Result<()> {
-    fs::write(rt, "replaced", "old")?;
-    fs::set_permissions(rt, "replaced", Permissions::from_mode(0o640))?;
-    fs::write(rt, "replaced.NEW", "left over, and longer")?;
-    fs::write(rt, "usual", "usual")?;
-    symlink(rt, "usual", "other.NEW")
+fn leave_files(rt: &(impl Files + Alloc)) -> io::Result<()> {
+    begin(rt, "left")?;
+    fs::write(rt, "left/db", "old")?;
+    fs::set_permissions(rt, "left/db", Permissions::from_mode(0o640))?;
+    fs::write(rt, "left/db.NEW", "left over, and longer")?;
+    fs::write(rt, "left/usual", "usual")?;
+    symlink(rt, "usual", "left/other.NEW")
 }
 
 #[test]
 fn disk_replaces_what_is_left_over(rt: HostRuntime) -> Result<(), Fail> {
     leave_files(&rt)?;
-    let mut disk = FileDisk::new(rt, Text::of(rt.alloc(), "replaced")?);
+    let mut disk = FileDisk::new(rt, Text::of(rt.alloc(), "left/db")?);
     assert_eq!(rt; rewrite(&mut disk, b"second"), Ok(()));
-    assert_file(&rt, "replaced", "second", 0o640)?;
-    let usual = mode_of(&rt, "usual")?;
-    let mut other = FileDisk::new(rt, Text::of(rt.alloc(), "other")?);
+    assert_file(&rt, "left/db", "second", 0o640)?;
+    let usual = mode_of(&rt, "left/usual")?;
+    let mut other = FileDisk::new(rt, Text::of(rt.alloc(), "left/other")?);
     assert_eq!(rt; rewrite(&mut other, b"beside a link"), Ok(()));
-    assert_file(&rt, "other", "beside a link", usual)?;
-    assert_file(&rt, "usual", "usual", usual)
+    assert_file(&rt, "left/other", "beside a link", usual)?;
+    assert_file(&rt, "left/usual", "usual", usual)?;
+    fs::remove_dir_all(&rt, "left")?;
+    Ok(())
 }
 
 #[test]
 fn disk_publishes_its_own_file_only(rt: HostRuntime) -> Result<(), Fail> {
-    fs::write(&rt, "kept", "old")?;
-    fs::write(&rt, "kept.NEW", "not ours")?;
-    let usual = mode_of(&rt, "kept")?;
-    let mut disk = FileDisk::new(rt, Text::of(rt.alloc(), "kept")?);
+    begin(&rt, "kept")?;
+    fs::write(&rt, "kept/db", "old")?;
+    fs::write(&rt, "kept/db.NEW", "not ours")?;
+    let usual = mode_of(&rt, "kept/db")?;
+    let mut disk = FileDisk::new(rt, Text::of(rt.alloc(), "kept/db")?);
     assert_eq!(rt; disk.new_write(b"x"), Err(Failed));
     assert_eq!(rt; disk.new_sync(), Err(Failed));
     assert_eq!(rt; disk.publish(), Err(Failed));
-    assert_file(&rt, "kept", "old", usual)
+    assert_file(&rt, "kept/db", "old", usual)?;
+    fs::remove_dir_all(&rt, "kept")?;
+    Ok(())
 }
 
 #[test]
 fn host_refuses_what_is_no_file(rt: HostRuntime) -> Result<(), Fail> {
-    fs::create_dir(&rt, "folder")?;
-    fs::write(&rt, "file", "")?;
-    symlink(&rt, "nothing", "dangling")?;
+    begin(&rt, "kinds")?;
+    fs::create_dir(&rt, "kinds/folder")?;
+    fs::write(&rt, "kinds/file", "")?;
+    symlink(&rt, "nothing", "kinds/dangling")?;
     let cases = [
-        ("folder", Err(Failed), Err(Failed), Err(Failed)),
+        ("kinds/folder", Err(Failed), Err(Failed), Err(Failed)),
         ("/dev/null", Err(Failed), Err(Failed), Err(Failed)),
-        ("file/below", Err(Failed), Err(Failed), Err(Failed)),
-        ("missing/db", Ok(None), Err(Failed), Err(Failed)),
-        ("dangling", Ok(None), Err(Failed), Ok(())),
-        ("folder/db", Ok(None), Err(Failed), Ok(())),
-        ("file", Ok(Some(0)), Ok(()), Ok(())),
+        ("kinds/file/below", Err(Failed), Err(Failed), Err(Failed)),
+        ("kinds/missing/db", Ok(None), Err(Failed), Err(Failed)),
+        ("kinds/dangling", Ok(None), Err(Failed), Ok(())),
+        ("kinds/folder/db", Ok(None), Err(Failed), Ok(())),
+        ("kinds/file", Ok(Some(0)), Ok(()), Ok(())),
     ];
     for (path, length, sync, start) in cases {
         let mut host = FileHost::new(rt, Text::of(rt.alloc(), path)?);
@@ -102,15 +117,18 @@ fn host_refuses_what_is_no_file(rt: HostRuntime) -> Result<(), Fail> {
         assert_eq!(rt; host.new_sync(), Err(Failed), "{path}: before the start");
         assert_eq!(rt; host.new_start(), start, "{path}");
     }
+    fs::remove_dir_all(&rt, "kinds")?;
     Ok(())
 }
 
 #[test]
 fn host_rewrites_and_prints(rt: HostRuntime) -> Result<(), Fail> {
-    let mut host = FileHost::new(rt, Text::of(rt.alloc(), "printed")?);
+    begin(&rt, "prints")?;
+    let mut host = FileHost::new(rt, Text::of(rt.alloc(), "prints/db")?);
     assert_eq!(rt; rewrite(&mut host, b"bytes"), Ok(()));
     assert_eq!(rt; host.length(), Ok(Some(5)));
     assert_eq!(rt; host.tell(b"told \xff\n"), Ok(()));
     host.warn(b"warned \xff\n");
+    fs::remove_dir_all(&rt, "prints")?;
     Ok(())
 }

@@ -1,0 +1,2 @@
+// Whole runs over devices in memory.
+mod flat;
