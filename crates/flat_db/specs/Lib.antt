@@ -1,3 +1,4 @@
 pub mod FlatText
+pub mod Laws
 pub mod Lines
 pub mod SetPair
