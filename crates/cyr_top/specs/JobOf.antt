@@ -46,7 +46,7 @@ pub record CanSet (key value : List ℕ) : Type 0 where
 
 -- what holds of a job that words stand for
 abbrev pub CanDo : Job → Type 0
-CanDo (Dbtool make file Flat (Set key value)) = CanSet key value
+CanDo (Dbtool false file Flat (Set key value)) = CanSet key value
 CanDo job = ⊥
 
 -- the path of a job's main file

@@ -1,2 +1,3 @@
 pub mod JobOf
+pub mod Opened
 pub mod StatedResult

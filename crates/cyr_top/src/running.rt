@@ -7,6 +7,9 @@ ghost use Rattle.base_core.specs.Notes.{note_text, status_of};
 ghost use Rattle.flat_db.specs.SetPair.{IsOwnRefusal};
 ghost use Rattle.cyr_top.specs.JobOf.{job_of, set_job, CanSet, CanDo};
 ghost use Rattle.cyr_top.specs.StatedResult.{set_note, IsStated, IsFault, IsRefused, SetsPair, LeftByJob};
+ghost use Rattle.base_core.specs.OrderedMap.{Map};
+ghost use Rattle.base_core.specs.Transactions.{after_transactions};
+ghost use Rattle.cyr_top.specs.Opened.{EachOpens, KeepsPrefix, backend_of, transactions_of};
 
 use crate::{Job, WordFault, job};
 use base_core::{Action, Backend, Device, Host, LimitName, Note, Outcome};
@@ -116,6 +119,14 @@ pub fn run<H: Host>(alloc: Global, words: &[String], host: &mut H) -> Outcome
     // Wherever the run stops, the file is one that could be left before, or the whole new one.
     ensures any_moment { LeavesOnly (H.state host.old) (H.state host.new)
         (λ c n. (n ≡ (H.state host.old).mark) × ((H.state host.old).leaves c ⊎ LeftByJob (job_of (map string_bytes words.now)) (H.state host.old).reads c)) }
+
+    // The same in words of maps and transactions: where each image at the start opens to one map, each that is left opens to the
+    // map after a prefix of the job's transactions that holds every acknowledged one; after `Done` to that after all of them.
+    ensures crash { (job : Job) → (m : Map) → job_of (map string_bytes words.now) ≡ Some job → EachOpens (backend_of job) (H.state host.old) m
+        → LeavesOnly (H.state host.old) (H.state host.new) (KeepsPrefix job m (H.state host.old).mark) }
+    ensures committed { (job : Job) → (m : Map) → job_of (map string_bytes words.now) ≡ Some job → EachOpens (backend_of job) (H.state host.old) m
+        → result.note ≡ Note.Done → EachOpens (backend_of job) (H.state host.new) (after_transactions m (transactions_of job)) }
+    ensures uncommitted { (backend : Backend) → (m : Map) → EachOpens backend (H.state host.old) m → IsRefused result.note → EachOpens backend (H.state host.new) m }
 
     // A device fault is answered exactly where the count rose, or stands at its last value.
     ensures cause { IsFault result.note → Rose (H.state host.old).faults (H.state host.new).faults }
