@@ -32,6 +32,14 @@ IsStated key value main (DeviceFault Host) reads = Unit {0}
 IsStated key value main Memory reads = Unit {0}
 IsStated key value main note reads = ⊥
 
+-- What the main file reads asks for this note.
+abbrev pub IsCause : List ℕ → List ℕ → Image → Note → Type 0
+IsCause key value main Done = (after : Image) × IsSet key value main after
+IsCause key value main Absent = main ≡ None
+IsCause key value main (Limit File number) = IsTooBig main number ⊎ IsFull key value main number
+IsCause key value main (Damaged at check) = IsDamaged main at check
+IsCause key value main note = ⊥
+
 -- the host failed
 abbrev pub IsFault : Note → Type 0
 IsFault (DeviceFault Host) = Unit {0}

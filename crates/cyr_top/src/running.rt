@@ -3,10 +3,11 @@ ghost use Rattle.std.specs.Prelude.{◌≡◌, ◌⊎◌, ◌↔◌, Some, IsErr
 ghost use Rattle.base_core.specs.Causes.{Rose};
 ghost use Rattle.base_core.specs.CrashImages.{Image, LeavesOnly, StaysAs, SameDisk, IsDurable};
 ghost use Rattle.base_core.specs.HostCalls.{told_with};
+ghost use Rattle.base_core.specs.declared.note.Note.{Note};
 ghost use Rattle.base_core.specs.Notes.{note_text, status_of};
 ghost use Rattle.flat_db.specs.SetPair.{IsOwnRefusal};
 ghost use Rattle.cyr_top.specs.JobOf.{job_of, set_job, CanSet, CanDo};
-ghost use Rattle.cyr_top.specs.StatedResult.{set_note, IsStated, IsFault, IsRefused, SetsPair, LeftByJob};
+ghost use Rattle.cyr_top.specs.StatedResult.{set_note, IsStated, IsCause, IsFault, IsRefused, SetsPair, LeftByJob};
 ghost use Rattle.base_core.specs.OrderedMap.{Map};
 ghost use Rattle.base_core.specs.Transactions.{after_transactions};
 ghost use Rattle.cyr_top.specs.Opened.{EachOpens, KeepsPrefix, backend_of, transactions_of};
@@ -111,6 +112,9 @@ pub fn run<H: Host>(alloc: Global, words: &[String], host: &mut H) -> Outcome
     // Each other note comes where it is stated, by what the main file reads; with `Done` it reads the text of the map with the pair put.
     ensures stated { (file key value : List ℕ) → job_of (map string_bytes words.now) ≡ Some (set_job file key value)
         → (main : Image) → (H.state host.old).reads ≡ Some main → IsStated key value main result.note (H.state host.new).reads }
+    ensures exactly { (file key value : List ℕ) → job_of (map string_bytes words.now) ≡ Some (set_job file key value)
+        → (main : Image) → (H.state host.old).reads ≡ Some main → (wanted : Note) → IsCause key value main wanted
+        → (result.note ≡ wanted) ⊎ (IsFault result.note ⊎ (result.note ≡ Note.Memory)) }
     ensures durable { result.note ≡ Note.Done → IsDurable (H.state host.new) }
 
     // A refusal that is no device fault leaves the file as it was, at every moment.

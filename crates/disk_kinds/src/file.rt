@@ -11,6 +11,7 @@ use crate::real::{MainFile, NewFile};
 use base_core::{Disk, Failed, Text};
 use std::io::{self, ErrorKind};
 use std::marker::Model;
+use std::os::fd::AsRawFd;
 use std::os::unix::fs::FileExt;
 use std::rt::Files;
 
@@ -61,7 +62,7 @@ impl<R: Files + AllocGlobal + Drop> FileDisk<R> {
 
 impl<R: Files + AllocGlobal + Drop> Disk for FileDisk<R>
 where
-    R::File: FileExt,
+    R::File: FileExt + AsRawFd,
 {
     ghost state = { untold };
 

@@ -13,6 +13,7 @@ use base_core::{Disk, Failed, Host, Text};
 use std::fmt;
 use std::io::{Eprint, Print};
 use std::marker::Model;
+use std::os::fd::AsRawFd;
 use std::os::unix::fs::FileExt;
 use std::rt::Files;
 
@@ -48,7 +49,7 @@ impl<R: Files + AllocGlobal + Print + Eprint + Drop> FileHost<R> {
 
 impl<R: Files + AllocGlobal + Print + Eprint + Drop> Disk for FileHost<R>
 where
-    R::File: FileExt,
+    R::File: FileExt + AsRawFd,
 {
     ghost state = { λ h. untold h.disk };
 
@@ -99,7 +100,7 @@ where
 
 impl<R: Files + AllocGlobal + Print + Eprint + Drop> Host for FileHost<R>
 where
-    R::File: FileExt,
+    R::File: FileExt + AsRawFd,
 {
     ghost streams = { λ h. untold_streams h };
 

@@ -3,6 +3,7 @@ ghost use Rattle.std.specs.Prelude.{◌<◌, ◌≤◌, IfOk, length};
 
 use std::fs::{File, Metadata, OpenFile, OpenOptions, Permissions};
 use std::io::{ErrorKind, Write};
+use std::os::fd::AsRawFd;
 use std::os::unix::fs::{FileExt, MetadataExt, OpenOptionsExt, PermissionsExt};
 use std::path::Path;
 use std::rt::Files;
@@ -16,6 +17,18 @@ const PRIVATE_MODE: u32 = 0o600;
 
 // What a file is made with, less the umask.
 const USUAL_MODE: u32 = 0o666;
+
+// The numbers of standard input, output and error.
+const LAST_STREAM: i32 = 2;
+
+// Refuses a file that the system gave the number of a standard stream, since that was closed when the program began: what
+// is printed there would be written into the file.
+fn apart_from_streams<F: AsRawFd + Drop>(file: F) -> io::Result<F> {
+    if file.as_raw_fd() <= LAST_STREAM {
+        return Err(ErrorKind::Other.into());
+    }
+    Ok(file)
+}
 
 // The regular file at the path, or None where nothing is there. A link is followed, and nothing is opened, so a pipe
 // can't hang it.
@@ -47,16 +60,22 @@ impl<R: Files> MainFile<R> {
     }
 
     // Opens the file for reading and writing, if it is there and not open yet.
-    fn open(&mut self, rt: &R, path: &str) -> io::Result<()> {
+    fn open(&mut self, rt: &R, path: &str) -> io::Result<()>
+    where
+        R::File: AsRawFd,
+    {
         if self.file.is_none() && find_file(rt, path)?.is_some() {
             let file = OpenOptions::new().read(true).write(true).open(rt, path)?;
-            self.file = Some(file);
+            self.file = Some(apart_from_streams(file)?);
         }
         Ok(())
     }
 
     /// The length in bytes, or None where nothing is at the path.
-    pub(crate) fn length(&mut self, rt: &R, path: &str) -> io::Result<Option<u64>> {
+    pub(crate) fn length(&mut self, rt: &R, path: &str) -> io::Result<Option<u64>>
+    where
+        R::File: AsRawFd,
+    {
         self.open(rt, path)?;
         match &self.file {
             Some(file) => Ok(Some(file.metadata()?.len())),
@@ -73,7 +92,7 @@ impl<R: Files> MainFile<R> {
         into: &mut [u8],
     ) -> io::Result<usize>
     where
-        R::File: FileExt,
+        R::File: FileExt + AsRawFd,
         ensures { IfOk result (λ count. (0 < count) × (count ≤ length into.new)) }
     {
         self.open(rt, path)?;
@@ -90,7 +109,10 @@ impl<R: Files> MainFile<R> {
     }
 
     /// Puts the file's bytes and its name on the disk.
-    pub(crate) fn sync(&mut self, rt: &R, path: &str) -> io::Result<()> {
+    pub(crate) fn sync(&mut self, rt: &R, path: &str) -> io::Result<()>
+    where
+        R::File: AsRawFd,
+    {
         self.open(rt, path)?;
         match &self.file {
             Some(file) => file.sync_all()?,

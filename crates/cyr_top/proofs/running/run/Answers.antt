@@ -4,6 +4,7 @@ use Rattle.base_core.proofs.Moments.{leaves_still, stays_still}
 use Rattle.base_core.specs.declared.note.Note.{Note}
 use Rattle.cyr_top.specs.Opened.{backend_of}
 use Rattle.cyr_top.specs.StatedResult.{IsStated}
+use Rattle.cyr_top.proofs.CauseLemmas.{stated_exactly}
 use Rattle.cyr_top.proofs.CrashLemmas.{crash_kept, done_opens, refused_opens, opens_still}
 use Rattle.cyr_top.proofs.running.run.Goals as goal
 
@@ -23,3 +24,7 @@ returns-clause-committed g c job m asked opens done =
 
 pub returns-clause-uncommitted : goal.returns-clause-uncommitted
 returns-clause-uncommitted g c backend m opens refused = refused_opens _ _ backend m (stays_still _ _ _ c.warn.ensures.disk (c.perform-note.ensures.refused refused).0) opens
+
+pub returns-clause-exactly : goal.returns-clause-exactly
+returns-clause-exactly g c file key value asked main is wanted cause =
+    stated_exactly key value main c.perform-note.result wanted _ (c.perform-note.ensures.stated file key value asked main is) cause
