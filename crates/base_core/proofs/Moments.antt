@@ -1,5 +1,5 @@
 -- How a run of calls goes on.
-use Rattle.std.proofs.Common.{◌≡◌, Some, ◌⊎◌, inl, inr, ⊎_elim, ℕ, ◌≤◌, ◌∙◌, sym, refl, subst, arith}
+use Rattle.std.proofs.Common.{◌≡◌, Some, ⊎_elim, ℕ, ◌≤◌, ◌∙◌, refl}
 use Rattle.std.specs.Prelude.{IsSome}
 use Rattle.base_core.specs.DiskCalls.{DiskCall}
 use Rattle.base_core.specs.CrashImages.{Image, DiskState, GoesOn, LeavesOnly, LeavesSame, KeepsMain, StaysAs, SameDisk, IsMoment, IsDurable}

@@ -1,5 +1,5 @@
 -- Time goes on from call to call.
-use Rattle.std.proofs.Common.{◌≡◌, ◌⊎◌, inl, inr, ⊎_elim, ℕ, ◌≤◌, refl, arith}
+use Rattle.std.proofs.Common.{inl, inr, ⊎_elim, ℕ, arith}
 use Rattle.base_core.specs.CrashImages.{Image, DiskState, GoesOn, IsMoment}
 
 pub goes_same : (s : DiskState) → GoesOn s s

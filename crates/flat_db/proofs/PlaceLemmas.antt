@@ -1,16 +1,16 @@
 -- The parts of a text round the line of a key.
-use Rattle.std.proofs.Common.{◌≡◌, ◌≢◌, ◌⊎◌, inl, inr, ℕ, ◌+◌, ◌-◌, ◌≤◌, List, [], ◌∷◌, ◌++◌, length, take, drop, refl, sym, ◌∙◌, ap, subst, append_assoc, arith, length-append}
+use Rattle.std.proofs.Common.{◌≡◌, ◌≢◌, inl, inr, ℕ, ◌-◌, List, [], ◌∷◌, ◌++◌, length, take, drop, refl, sym, ◌∙◌, ap, subst, append_assoc, arith, length-append}
 use Rattle.std.proofs.Math.Seq.{take-append_seam, drop-append_seam}
 use Rattle.std.proofs.lemmas.List.{append-nil}
 use Rattle.std.specs.declared.cmp.Ordering.{Ordering}
 use Rattle.std.specs.declared.cmp.Ordering.TheVariants.{Less, Equal, Greater}
-use Rattle.std.specs.Ordering.{ordering_reverse, nat_cmp}
+use Rattle.std.specs.Ordering.{ordering_reverse}
 use Rattle.std.specs.Cmp.Lexicographic.{nat_list_cmp_total}
 use Rattle.std.specs.FinMap.{slice_cmp-IsAntisymmetric, nat_cmp-IsAntisymmetric}
 use Rattle.base_core.specs.OrderedMap.{Map, IsBelow, BeginsAbove, key_order, put}
-use Rattle.flat_db.specs.FlatText.{IsPlain, IsPlainRun, FlatTextOf, StartsPlain, IsFirstUnplain, canonical_text, pair_line, last_key}
+use Rattle.flat_db.specs.FlatText.{IsPlainRun, StartsPlain, IsFirstUnplain, canonical_text, pair_line, last_key}
 use Rattle.flat_db.specs.Lines.{Passes, OwnOrNone, PutsLine}
-use Rattle.flat_db.proofs.RunLemmas.{run_then, last_then, text_then, plain_line, put_behind, put_over, put_before, run_starts, passes_next}
+use Rattle.flat_db.proofs.RunLemmas.{run_then, last_then, text_then, plain_line, put_behind, put_over, put_before, run_starts}
 
 -- one text behind another
 front_of : (text a b : List ℕ) → text ≡ a ++ b → take (length text - length b) text ≡ a

@@ -1,14 +1,13 @@
 -- A text has one reading.
-use Rattle.std.proofs.Common.{◌≡◌, ◌≢◌, ℕ, ◌+◌, List, [], ◌∷◌, ◌++◌, length, refl, sym, ◌∙◌, ap, subst, append_assoc, arith, length-append}
+use Rattle.std.proofs.Common.{◌≡◌, ℕ, List, [], ◌∷◌, ◌++◌, length, refl, sym, ◌∙◌, ap, subst, arith, length-append}
 use Rattle.std.proofs.lemmas.List.{append-nil}
 use Rattle.std.specs.declared.cmp.Ordering.{Ordering}
 use Rattle.std.specs.declared.cmp.Ordering.TheVariants.{Less, Equal, Greater}
 use Rattle.std.specs.Ordering.{ordering_reverse, match_ordering}
 use Rattle.std.specs.Cmp.Lexicographic.{nat_list_cmp_total}
-use Rattle.std.specs.FinMap.{slice_cmp-IsAntisymmetric, nat_cmp-IsAntisymmetric}
 use Rattle.std.specs.BTreeMap.{insert_entry}
 use Rattle.base_core.specs.OrderedMap.{Map, IsBelow, key_order, put}
-use Rattle.flat_db.specs.FlatText.{IsPlain, IsPlainRun, FlatTextOf, StartsPlain, IsFirstUnplain, canonical_text, last_key}
+use Rattle.flat_db.specs.FlatText.{IsPlain, IsPlainRun, StartsPlain, canonical_text, last_key}
 use Rattle.flat_db.specs.Laws.{TextIsOneMap, FirstFlawIsOne, PutTextIsPlain}
 use Rattle.flat_db.proofs.FieldLemmas.{starts_same}
 use Rattle.flat_db.proofs.RunLemmas.{run_starts}

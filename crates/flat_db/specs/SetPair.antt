@@ -1,5 +1,5 @@
 -- What becomes of a flat file in which a pair is set, and why it may be refused.
-use Rattle.std.specs.Prelude.{◌≡◌, ℕ, ◌<◌, ◌≤◌, List, Option, Some, None, Result, Err, OnOk, IfErr, length}
+use Rattle.std.specs.Prelude.{◌≡◌, ℕ, ◌<◌, ◌≤◌, List, Some, None, Result, Err, OnOk, IfErr, length}
 use Rattle.base_core.specs.Causes.{Rose}
 use Rattle.base_core.specs.CrashImages.{Image}
 use Rattle.base_core.specs.OrderedMap.{Map, put}

@@ -1,7 +1,7 @@
-use Rattle.std.proofs.Common.{◌≡◌, ℕ, List, ◌++◌, ◌+◌, ◌-◌, length, take, drop, sym, ◌∙◌, ap, refl, arith, append_assoc}
+use Rattle.std.proofs.Common.{◌≡◌, ℕ, List, ◌++◌, ◌+◌, ◌-◌, take, drop, sym, ◌∙◌, ap, refl, arith, append_assoc}
 use Rattle.std.proofs.Math.Seq.{take-add}
 use Rattle.std.specs.Option.{option_map}
-use Rattle.std.specs.Prelude.{Option, Some, None, IsSome, is_some}
+use Rattle.std.specs.Prelude.{Option, Some, None, is_some}
 use Rattle.base_core.specs.CrashImages.{Fresh}
 use Rattle.base_core.specs.DiskCalls.{appended, fresh_bytes}
 use Rattle.base_core.proofs.Moments.{stays_then, stays_call}

@@ -1,10 +1,8 @@
-use Rattle.std.proofs.Common.{◌≡◌, List, [], ◌∷◌, ℕ, Bool, true, false, length, subst, refl, sym, ◌∙◌, ap, arith}
+use Rattle.std.proofs.Common.{◌≡◌, List, [], ◌∷◌, ℕ, true, length, subst, refl, sym, ◌∙◌, ap, arith}
 use Rattle.std.specs.Prelude.{◌==◌}
 use Rattle.std.proofs.lemmas.Bool.{false≢true}
-use Rattle.base_core.specs.OrderedMap.{IsBelow}
-use Rattle.flat_db.specs.FlatText.{StartsPlain}
 use Rattle.flat_db.specs.Lines.{Passes}
-use Rattle.flat_db.proofs.PlaceLemmas.{Parts, parts_of, puts_line, first_unplain}
+use Rattle.flat_db.proofs.PlaceLemmas.{parts_of, puts_line, first_unplain}
 use Rattle.flat_db.proofs.lines.place_of.Goals as goal
 
 is_empty_list : (l : List ℕ) → (length l == 0) ≡ true → l ≡ []

@@ -1,6 +1,5 @@
-use Rattle.std.proofs.Common.{◌≡◌, Bool, true, false, subst, sym, ◌∙◌, ap, refl}
-use Rattle.std.specs.Prelude.{not, ◌==◌}
-use Rattle.std.specs.Ordering.{ordering_index}
+use Rattle.std.proofs.Common.{◌≡◌, Bool, true, false, subst, sym, ◌∙◌, refl}
+use Rattle.std.specs.Prelude.{not}
 use Rattle.base_core.specs.OrderedMap.{IsBelow}
 use Rattle.flat_db.proofs.FieldLemmas.{starts_same, is_less, not_less}
 use Rattle.flat_db.proofs.RunLemmas.{passes_next}

@@ -1,6 +1,5 @@
-use Rattle.std.proofs.Common.{◌≡◌, ℕ, List, Some, is_some, subst, refl, sym, ◌∙◌, ap, arith}
+use Rattle.std.proofs.Common.{Some, subst, sym, ◌∙◌, ap}
 use Rattle.base_core.proofs.Lengths.{absent_length, there_length}
-use Rattle.base_core.specs.CrashImages.{Image}
 use Rattle.std.specs.Prelude.{IsSome}
 use Rattle.flat_db.proofs.SettingLemmas.{some_of}
 use Rattle.flat_db.proofs.setting.load.Goals as goal

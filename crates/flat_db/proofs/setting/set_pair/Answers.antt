@@ -1,4 +1,4 @@
-use Rattle.std.proofs.Common.{◌≡◌, ℕ, List, subst, sym, ◌∙◌}
+use Rattle.std.proofs.Common.{ℕ, List, subst, sym, ◌∙◌}
 use Rattle.flat_db.specs.Lines.{PutsLine}
 use Rattle.flat_db.proofs.SettingLemmas.{set_moments, fits_in_text}
 use Rattle.flat_db.proofs.setting.set_pair.Goals as goal
