@@ -1,0 +1,5 @@
+pub mod HeaderLemmas
+pub mod HeadLemmas
+pub mod Parts
+pub mod UniqueHeader
+pub mod UniqueRecord
