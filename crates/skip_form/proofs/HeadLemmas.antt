@@ -1,7 +1,7 @@
 -- What stands in the first eight bytes of a record, and what its tests say of it.
-use Rattle.std.proofs.Common.{◌≡◌, ℕ, zero, suc, ◌+◌, ◌*◌, ◌/◌, ◌^◌, ◌<◌, ◌≤◌, ◌⊎◌, ◌↔◌, Bool, true, false, not, cond, eqb, ltb, leb, ◌&&◌, ◌||◌, List, [], ◌∷◌, ◌++◌, length, get_or, take, drop, Option, Some, None, Result, Ok, Err, refl, sym, ap, subst, ◌∙◌, inl, inr, arith, nat_lt}
-use Rattle.std.specs.Int.{w16, w32, w64, to_be_bytes, from_be_bytes}
-use Rattle.std.proofs.lemmas.Bool.{ltb-false, le-ltb, eqb-true, eq-eqb, eqb-false, leb-true, le-leb}
+use Rattle.std.proofs.Common.{◌≡◌, ℕ, ◌+◌, ◌^◌, ◌<◌, ◌≤◌, ◌⊎◌, ◌↔◌, Bool, true, false, not, cond, eqb, leb, ◌&&◌, ◌||◌, List, [], ◌∷◌, ◌++◌, length, get_or, Option, Some, None, refl, sym, ap, subst, ◌∙◌, inl, inr, arith, nat_lt}
+use Rattle.std.specs.Int.{w16, w32, to_be_bytes, from_be_bytes}
+use Rattle.std.proofs.lemmas.Bool.{ltb-false, le-ltb, eqb-true, eqb-false, leb-true, le-leb}
 use Rattle.std.proofs.lemmas.Nat.{from_be_bytes-to_be_bytes_2, from_be_bytes-to_be_bytes_4}
 use Rattle.base_core.specs.declared.flaw.Flaw.{Flaw}
 use Rattle.base_core.specs.declared.flaw.Flaw.TheVariants.{Short, Level, Extended, Kind}
@@ -11,8 +11,8 @@ use Rattle.skip_form.specs.declared.head.Kind.TheVariants.{Dummy, Put, Gone, Com
 use Rattle.skip_form.specs.declared.opening.Opening.{Opening}
 use Rattle.skip_form.specs.Fields.{part, u16_in, u32_in}
 use Rattle.skip_form.specs.Sizes.{record_size}
-use Rattle.skip_form.specs.Spelling.{StandsAt, IsHead, IsLevelOf, AreLengthsOf, opening_bytes, type_byte}
-use Rattle.skip_form.specs.Flaws.{opening_in, is_bare, is_kind_at, is_level, is_extended, head_flaw, head_in, kind_of}
+use Rattle.skip_form.specs.Spelling.{StandsAt, IsLevelOf, AreLengthsOf, opening_bytes, type_byte}
+use Rattle.skip_form.specs.Flaws.{opening_in, is_kind_at, is_level, is_extended, head_flaw, head_in, kind_of}
 use Rattle.skip_form.proofs.Parts.{AreBytes, part-2, part-4, part-8, part-add, to_be_bytes-u16_in, to_be_bytes-u32_in, u16_in-lt, u32_in-lt}
 
 -- ---- the tests, one by one

@@ -1,14 +1,11 @@
 -- Two records with one spelling are equal.
-use Rattle.std.proofs.Common.{◌≡◌, ℕ, zero, suc, ◌+◌, ◌*◌, ◌^◌, ◌<◌, List, [], ◌∷◌, ◌++◌, length, take, drop, get_or, refl, sym, ap, subst, ◌∙◌, arith, append_assoc}
+use Rattle.std.proofs.Common.{◌≡◌, ℕ, ◌*◌, ◌^◌, ◌<◌, List, [], ◌∷◌, ◌++◌, length, take, drop, get_or, refl, sym, ap, ◌∙◌, arith, append_assoc}
 use Rattle.std.specs.List.{flat_map, AllByRecursion}
-use Rattle.std.specs.Int.{w16, w32, w64, to_be_bytes}
+use Rattle.std.specs.Int.{w32, w64, to_be_bytes}
 use Rattle.std.proofs.lemmas.List.{length-append}
 use Rattle.check_word.specs.CheckWord.{check_word}
-use Rattle.skip_form.specs.declared.head.Head.{Head}
-use Rattle.skip_form.specs.declared.head.Kind as kinds
-use Rattle.skip_form.specs.declared.head.Kind.TheVariants.{Dummy, Put, Gone, Commit}
 use Rattle.skip_form.specs.Flaws.{kind_of}
-use Rattle.skip_form.specs.Spelling.{Record, IsRecord, record_bytes, head_bytes, head_front, head_of, body_bytes, opening_bytes, type_byte}
+use Rattle.skip_form.specs.Spelling.{Record, IsRecord, record_bytes, head_bytes, head_front, head_of, body_bytes, opening_bytes}
 use Rattle.skip_form.proofs.HeadLemmas.{kind_again, lengths_fit}
 use Rattle.skip_form.proofs.UniqueHeader.{append_parts, same_2, same_4, same_8}
 

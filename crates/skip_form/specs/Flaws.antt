@@ -1,5 +1,5 @@
 -- What can be wrong with a header, and with a record's head, in the order in which it is looked at.
-use Rattle.std.specs.Prelude.{ℕ, ◌+◌, ◌==◌, Bool, true, false, not, ◌&&◌, ◌||◌, List, length, Option, Some, None, nat_lt, nat_le, nat_eq, if◌then◌else◌, slice_index}
+use Rattle.std.specs.Prelude.{ℕ, ◌+◌, ◌==◌, Bool, not, ◌&&◌, ◌||◌, List, length, Option, Some, None, nat_lt, nat_le, nat_eq, if◌then◌else◌, slice_index}
 use Rattle.std.specs.Cmp.Lexicographic.{pointwise}
 use Rattle.check_word.specs.CheckWord.{check_word}
 use Rattle.base_core.specs.declared.flaw.Flaw.{Flaw}

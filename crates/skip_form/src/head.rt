@@ -20,7 +20,7 @@ pub enum Kind {
     Dummy,
     /// A key and its value.
     Put,
-    /// A key that was deleted.
+    /// The place of a key that was deleted.
     Gone,
     /// The end of a transaction.
     Commit,
@@ -115,7 +115,7 @@ pub fn head_at(bytes: &[u8], at: u64) -> Result<Head, Flaw>
     ensures only { (h : Head) → StandsAt bytes.now at h → result ≡ Ok h }
     ensures flaw { (f : Flaw) → (result ≡ Err f) ↔ (head_flaw bytes.now at ≡ Some f) }
     // The same by the bytes of each field.
-    ensures fields { IfOk result (λ h. h ≡ head_in bytes.now at) }
+    ensures fields { IfOk result (λ h. (head_flaw bytes.now at ≡ None) × (h ≡ head_in bytes.now at)) }
 {
     match flaw_at(bytes, at) {
         Some(flaw) => Err(flaw),
@@ -166,9 +166,9 @@ fn write_words(word: u32, tail: u32, into: &mut [u8])
     BigEndian::write_u32(&mut into[4..], tail);
 }
 
-#[tactic(auto, unfolding(crate::specs::Spelling::head_bytes))]
 /// Writes a head with these pointers and this tail check, and with its head check, into a slice of
 /// the head's size. `size` of `head` is not looked at.
+#[tactic(auto, unfolding(crate::specs::Spelling::head_bytes))]
 pub fn write_head_into(head: &Head, pointers: &[u64], tail: u32, into: &mut [u8])
     requires level { head.now.level ≤ 31 }
     requires key { head.now.key_len ≤ 65534 }

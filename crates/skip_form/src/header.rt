@@ -1,5 +1,5 @@
 // The first 64 bytes of a file.
-ghost use Rattle.std.specs.Prelude.{◌≡◌, ◌≤◌, ◌↔◌, nat_eq, length, take, Some, IfOk};
+ghost use Rattle.std.specs.Prelude.{◌≡◌, ◌≤◌, ◌↔◌, nat_eq, length, take, IfOk};
 ghost use Rattle.std.specs.Cmp.Lexicographic.{pointwise};
 ghost use Rattle.check_word.specs.CheckWord.{check_word};
 ghost use Rattle.skip_form.specs.Fields.{part};
@@ -24,7 +24,7 @@ pub struct Header {
     pub repack_size: u64,
     /// The committed end, in bytes from the file's start.
     pub current_size: u64,
-    /// Bit 0 is set while a transaction is open; the others are kept as read.
+    /// Bit 0 is DIRTY, set while a transaction is open. The others are kept as read.
     pub flags: u32,
 }
 
@@ -85,6 +85,8 @@ pub fn read_header(bytes: &[u8]) -> Result<Header, Flaw>
     ensures found { IfOk result (λ h. IsHeader h × (take 64 bytes.now ≡ header_bytes h)) }
     ensures only { (h : Header) → IsHeader h → take 64 bytes.now ≡ header_bytes h → result ≡ Ok h }
     ensures flaw { (f : Flaw) → (result ≡ Err f) ↔ (header_flaw bytes.now ≡ Some f) }
+    // The same by the bytes of each field.
+    ensures fields { IfOk result (λ h. (header_flaw bytes.now ≡ None) × (h ≡ header_in bytes.now)) }
 {
     match flaw_of(bytes) {
         Some(flaw) => Err(flaw),

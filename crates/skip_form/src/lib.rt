@@ -13,3 +13,6 @@ pub use head::{Head, Kind, head_at, pointer, write_head_into};
 pub use header::{Header, read_header, write_header};
 pub use laws::spelling_is_unique;
 pub use sizes::{head_size, level_of, record_size, tail_check};
+
+#[cfg(test)]
+mod tests;

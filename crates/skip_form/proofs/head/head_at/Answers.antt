@@ -1,4 +1,4 @@
-use Rattle.std.proofs.Common.{◌≡◌, ℕ, sym, ap, ◌∙◌, arith, Result, Ok, Err, Option, Some, None, subst}
+use Rattle.std.proofs.Common.{◌≡◌, sym, ap, ◌∙◌, arith, Result, Ok, Option, Some, None, subst}
 use Rattle.base_core.specs.declared.flaw.Flaw.{Flaw}
 use Rattle.skip_form.specs.declared.head.Head.{Head}
 use Rattle.skip_form.specs.Spelling.{StandsAt}

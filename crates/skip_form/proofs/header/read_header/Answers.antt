@@ -1,4 +1,4 @@
-use Rattle.std.proofs.Common.{◌≡◌, ℕ, List, sym, ap, ◌∙◌, arith, Result, Ok, Err, Option, Some, None, subst, take}
+use Rattle.std.proofs.Common.{◌≡◌, sym, ap, ◌∙◌, arith, Result, Ok, Option, Some, None, subst, take}
 use Rattle.base_core.specs.declared.flaw.Flaw.{Flaw}
 use Rattle.skip_form.specs.declared.header.Header.{Header}
 use Rattle.skip_form.specs.Spelling.{IsHeader, header_bytes}

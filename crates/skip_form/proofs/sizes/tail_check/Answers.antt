@@ -1,4 +1,4 @@
-use Rattle.std.proofs.Common.{sym, ap, arith, ◌≡◌, ◌∙◌, ℕ, zero, suc, List, [], ◌∷◌, ◌++◌, ◌+◌, ◌-◌, ◌*◌, ◌/◌, ◌%◌, ◌≤◌, length, take, replicate, refl}
+use Rattle.std.proofs.Common.{ap, arith, ◌≡◌, ◌∙◌, ℕ, zero, suc, List, [], ◌∷◌, ◌++◌, ◌+◌, ◌-◌, ◌%◌, ◌≤◌, length, take, replicate, refl}
 use Rattle.check_word.specs.CheckWord.{check_word}
 use Rattle.skip_form.specs.Sizes.{padded}
 use Rattle.skip_form.proofs.sizes.tail_check.Goals as goal
