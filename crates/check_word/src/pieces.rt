@@ -28,14 +28,16 @@ impl Check {
 
     /// Takes the next piece.
     pub fn add(&mut self, bytes: &[u8])
-        ensures { (added : List ℕ) → self.old ≡ after_bytes all_ones added → self.new ≡ after_bytes all_ones (added ++ bytes.now) }
+        ensures { (added : List ℕ) → self.old ≡ after_bytes all_ones added →
+            self.new ≡ after_bytes all_ones (added ++ bytes.now) }
     {
         self.register = register::after_bytes(self.register, bytes);
     }
 
     /// The check word of all pieces so far, one after the other.
     pub fn done(&self) -> u32
-        ensures { (added : List ℕ) → self.now ≡ after_bytes all_ones added → result ≡ check_word added }
+        ensures { (added : List ℕ) → self.now ≡ after_bytes all_ones added →
+            result ≡ check_word added }
     {
         self.register ^ u32::MAX
     }

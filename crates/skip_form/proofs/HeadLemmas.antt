@@ -14,6 +14,7 @@ use Rattle.skip_form.specs.Sizes.{record_size}
 use Rattle.skip_form.specs.Spelling.{StandsAt, IsLevelOf, AreLengthsOf, opening_bytes, type_byte}
 use Rattle.skip_form.specs.Flaws.{opening_in, is_kind_at, is_level, is_extended, head_flaw, head_in, kind_of}
 use Rattle.skip_form.proofs.Parts.{AreBytes, part-2, part-4, part-8, part-add, to_be_bytes-u16_in, to_be_bytes-u32_in, u16_in-lt, u32_in-lt}
+use Rattle.skip_form.proofs.Tests.{passed, not_false}
 
 -- ---- the tests, one by one
 
@@ -32,14 +33,6 @@ flaw_of count at o =
     (cond (not (is_level o)) (Some Level)
     (cond (is_extended o) (Some Extended)
     (cond (nat_lt count (at + record_size o.level o.key_len o.value_len)) (Some Short) None))))
-
-passed : {A : Type 0} (t : Bool) (e : A) (r : Option A) → cond t (Some e) r ≡ None → (t ≡ false) × (r ≡ None)
-passed true e r h = absurd cc
-passed false e r h = (refl, h)
-
-not_false : (t : Bool) → not t ≡ false → t ≡ true
-not_false true h = refl
-not_false false h = absurd cc
 
 Passes-none : (count at : ℕ) (o : Opening) → flaw_of count at o ≡ None → Passes count at o
 Passes-none count at o e =

@@ -15,6 +15,7 @@ use Rattle.skip_form.specs.Fields.{part, u32_in, u64_in}
 use Rattle.skip_form.specs.Flaws.{header_flaw, header_in}
 use Rattle.skip_form.specs.Spelling.{IsHeader, header_bytes, header_front, magic}
 use Rattle.skip_form.proofs.Parts.{AreBytes, AreBytes-part, part-add, to_be_bytes-u32_in, to_be_bytes-u64_in, u32_in-lt, u64_in-lt}
+use Rattle.skip_form.proofs.Tests.{passed, not_false}
 
 -- ---- the tests, one by one
 
@@ -23,14 +24,6 @@ pub record Passes (b : List ℕ) : Type 0 where
   pub magic : part b 0 20 ≡ magic
   pub version : u32_in (part b 20 4) ≡ 1
   pub check : u32_in (part b 60 4) ≡ check_word (part b 0 60)
-
-passed : (t : Bool) (e : Flaw) (r : Option Flaw) → cond t (Some e) r ≡ None → (t ≡ false) × (r ≡ None)
-passed true e r h = absurd cc
-passed false e r h = (refl, h)
-
-not_false : (t : Bool) → not t ≡ false → t ≡ true
-not_false true h = refl
-not_false false h = absurd cc
 
 Passes-none : (b : List ℕ) → header_flaw b ≡ None → Passes b
 Passes-none b e =

@@ -115,7 +115,8 @@ pub fn head_at(bytes: &[u8], at: u64) -> Result<Head, Flaw>
     ensures only { (h : Head) → StandsAt bytes.now at h → result ≡ Ok h }
     ensures flaw { (f : Flaw) → (result ≡ Err f) ↔ (head_flaw bytes.now at ≡ Some f) }
     // The same by the bytes of each field.
-    ensures fields { IfOk result (λ h. (head_flaw bytes.now at ≡ None) × (h ≡ head_in bytes.now at)) }
+    ensures fields { IfOk result
+        (λ h. (head_flaw bytes.now at ≡ None) × (h ≡ head_in bytes.now at)) }
 {
     match flaw_at(bytes, at) {
         Some(flaw) => Err(flaw),
