@@ -15,7 +15,7 @@ use Rattle.skip_form.specs.Fields.{part, u32_in, u64_in}
 use Rattle.skip_form.specs.Flaws.{header_flaw, header_in}
 use Rattle.skip_form.specs.Spelling.{IsHeader, header_bytes, header_front, magic}
 use Rattle.skip_form.proofs.Parts.{AreBytes, AreBytes-part, part-add, to_be_bytes-u32_in, to_be_bytes-u64_in, u32_in-lt, u64_in-lt}
-use Rattle.skip_form.proofs.Tests.{passed, not_false}
+use Rattle.skip_form.proofs.TestLemmas.{passed, not_false}
 
 -- ---- the tests, one by one
 

@@ -1,6 +1,6 @@
 pub mod HeadLemmas
 pub mod HeaderLemmas
 pub mod Parts
-mod Tests
+mod TestLemmas
 pub mod UniqueHeader
 pub mod UniqueRecord
