@@ -4,7 +4,8 @@ use Rattle.std.specs.List.{concat, range_with_len}
 use Rattle.std.specs.Simd.{first_chunks}
 use Rattle.std.proofs.lemmas.List.{ext_get_or, drop-drop, take-append-drop, drop_more}
 use Rattle.std.proofs.lemmas.List.FromFn.{get_or-map-range_with_len, length-map-range_with_len}
-use Rattle.check_word.specs.CheckWord.{after_bytes}
+use Rattle.std.proofs.lemmas.Nat.{xor_comm}
+use Rattle.check_word.specs.CheckWord.{after_bits, after_bytes}
 use Rattle.check_word.proofs.Linear.{after_bytes-append, after_bytes-mixed, after_bytes-taken_apart, taken_apart}
 
 -- sixteen bytes, one by one
@@ -16,10 +17,22 @@ listed bytes long = ext_get_or 0 bytes (map (λ i. get_or bytes i 0) (range_with
 abbrev pub mixed : ℕ → List ℕ → List ℕ
 mixed r bytes = bit_xor (get_or bytes 0 0) (r % 256) ∷ bit_xor (get_or bytes 1 0) (r / 256 % 256) ∷ bit_xor (get_or bytes 2 0) (r / 65536 % 256) ∷ bit_xor (get_or bytes 3 0) (r / 16777216 % 256) ∷ map (λ i. get_or bytes i 0) (range_with_len 4 12)
 
-pub after_bytes-block : (r : ℕ) (bytes : List ℕ) → r < 2 ^ 32 → length bytes ≡ 16 → taken_apart 0 (mixed r bytes) ≡ after_bytes r bytes
+-- what the first four bytes make of the register
+abbrev pub earlier : ℕ → List ℕ → ℕ
+earlier r bytes =
+    bit_xor (bit_xor (bit_xor (after_bits 128 (bit_xor (get_or bytes 0 0) (r % 256))) (after_bits 120 (bit_xor (get_or bytes 1 0) (r / 256 % 256)))) (after_bits 112 (bit_xor (get_or bytes 2 0) (r / 65536 % 256)))) (after_bits 104 (bit_xor (get_or bytes 3 0) (r / 16777216 % 256)))
+
+-- the other twelve
+abbrev pub later : List ℕ → List ℕ
+later bytes = map (λ i. get_or bytes i 0) (range_with_len 4 12)
+
+pub after_bytes-block : (r : ℕ) (bytes : List ℕ) → r < 2 ^ 32 → length bytes ≡ 16 → bit_xor (taken_apart 0 (later bytes)) (earlier r bytes) ≡ after_bytes r bytes
 after_bytes-block r bytes small long =
-    sym (after_bytes-taken_apart 0 (mixed r bytes))
-    ∙ sym (after_bytes-mixed r (get_or bytes 0 0) (get_or bytes 1 0) (get_or bytes 2 0) (get_or bytes 3 0) (map (λ i. get_or bytes i 0) (range_with_len 4 12)) small)
+    let joined : bit_xor (earlier r bytes) (taken_apart 0 (later bytes)) ≡ taken_apart 0 (mixed r bytes) =
+    ap (bit_xor (earlier r bytes)) (sym (after_bytes-taken_apart 0 (later bytes))) ∙ after_bytes-taken_apart (earlier r bytes) (later bytes) in
+    xor_comm (taken_apart 0 (later bytes)) (earlier r bytes) ∙ joined
+    ∙ sym (after_bytes-taken_apart 0 (mixed r bytes))
+    ∙ sym (after_bytes-mixed r (get_or bytes 0 0) (get_or bytes 1 0) (get_or bytes 2 0) (get_or bytes 3 0) (later bytes) small)
     ∙ ap (after_bytes r) (sym (listed bytes long))
 
 -- one block more

@@ -24,16 +24,13 @@ fn after_byte(register: u32, byte: u8) -> u32
 }
 
 /// The register after sixteen bytes. Each byte moves it on its own, by the steps that follow it, and
-/// what the register holds goes in with the first four.
+/// what the register holds goes in with the first four. These come last, since they wait for the
+/// block before.
 fn after_block(register: u32, block: &[u8; BLOCK]) -> u32
     ensures { result ≡ after_bytes register block.now }
 {
     let [first, second, third, fourth] = register.to_le_bytes();
-    look_up(15, block[0] ^ first)
-        ^ look_up(14, block[1] ^ second)
-        ^ look_up(13, block[2] ^ third)
-        ^ look_up(12, block[3] ^ fourth)
-        ^ look_up(11, block[4])
+    let later = look_up(11, block[4])
         ^ look_up(10, block[5])
         ^ look_up(9, block[6])
         ^ look_up(8, block[7])
@@ -44,7 +41,12 @@ fn after_block(register: u32, block: &[u8; BLOCK]) -> u32
         ^ look_up(3, block[12])
         ^ look_up(2, block[13])
         ^ look_up(1, block[14])
-        ^ look_up(0, block[15])
+        ^ look_up(0, block[15]);
+    let earlier = look_up(15, block[0] ^ first)
+        ^ look_up(14, block[1] ^ second)
+        ^ look_up(13, block[2] ^ third)
+        ^ look_up(12, block[3] ^ fourth);
+    later ^ earlier
 }
 
 /// The register after blocks of sixteen bytes.
