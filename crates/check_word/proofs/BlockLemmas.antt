@@ -4,7 +4,7 @@ use Rattle.std.specs.List.{concat, range_with_len}
 use Rattle.std.specs.Simd.{first_chunks}
 use Rattle.std.proofs.lemmas.List.{ext_get_or, drop-drop, take-append-drop, drop_more}
 use Rattle.std.proofs.lemmas.List.FromFn.{get_or-map-range_with_len, length-map-range_with_len}
-use Rattle.std.proofs.lemmas.Nat.{xor_comm}
+use Rattle.std.proofs.lemmas.Nat.{xor_comm, xor_mod, xor_shr}
 use Rattle.check_word.specs.CheckWord.{after_bits, after_bytes}
 use Rattle.check_word.proofs.Linear.{after_bytes-append, after_bytes-mixed, after_bytes-taken_apart, taken_apart}
 
@@ -17,20 +17,39 @@ listed bytes long = ext_get_or 0 bytes (map (λ i. get_or bytes i 0) (range_with
 abbrev pub mixed : ℕ → List ℕ → List ℕ
 mixed r bytes = bit_xor (get_or bytes 0 0) (r % 256) ∷ bit_xor (get_or bytes 1 0) (r / 256 % 256) ∷ bit_xor (get_or bytes 2 0) (r / 65536 % 256) ∷ bit_xor (get_or bytes 3 0) (r / 16777216 % 256) ∷ map (λ i. get_or bytes i 0) (range_with_len 4 12)
 
--- what the first four bytes make of the register
-abbrev pub earlier : ℕ → List ℕ → ℕ
-earlier r bytes =
-    bit_xor (bit_xor (bit_xor (after_bits 128 (bit_xor (get_or bytes 0 0) (r % 256))) (after_bits 120 (bit_xor (get_or bytes 1 0) (r / 256 % 256)))) (after_bits 112 (bit_xor (get_or bytes 2 0) (r / 65536 % 256)))) (after_bits 104 (bit_xor (get_or bytes 3 0) (r / 16777216 % 256)))
+-- the four bytes of a register mixed with a word
+abbrev pub earlier : ℕ → ℕ
+earlier m =
+    bit_xor (bit_xor (bit_xor (after_bits 128 (m % 256)) (after_bits 120 (m / 256 % 256))) (after_bits 112 (m / 65536 % 256))) (after_bits 104 (m / 16777216 % 256))
+
+-- a byte of the mix is a mix of two bytes
+mix_byte : (r w k b : ℕ) → w / 2 ^ k % 2 ^ 8 ≡ b → bit_xor r w / 2 ^ k % 2 ^ 8 ≡ bit_xor b (r / 2 ^ k % 2 ^ 8)
+mix_byte r w k b e =
+    ap (λ (z : ℕ). z % 2 ^ 8) (xor_shr r w k) ∙ xor_mod (r / 2 ^ k) (w / 2 ^ k) 8 ∙ ap (bit_xor (r / 2 ^ k % 2 ^ 8)) e ∙ xor_comm (r / 2 ^ k % 2 ^ 8) b
+
+mix_first : (r w b : ℕ) → w % 2 ^ 8 ≡ b → bit_xor r w % 2 ^ 8 ≡ bit_xor b (r % 2 ^ 8)
+mix_first r w b e = xor_mod r w 8 ∙ ap (bit_xor (r % 2 ^ 8)) e ∙ xor_comm (r % 2 ^ 8) b
 
 -- the other twelve
 abbrev pub later : List ℕ → List ℕ
 later bytes = map (λ i. get_or bytes i 0) (range_with_len 4 12)
 
-pub after_bytes-block : (r : ℕ) (bytes : List ℕ) → r < 2 ^ 32 → length bytes ≡ 16 → bit_xor (taken_apart 0 (later bytes)) (earlier r bytes) ≡ after_bytes r bytes
-after_bytes-block r bytes small long =
-    let joined : bit_xor (earlier r bytes) (taken_apart 0 (later bytes)) ≡ taken_apart 0 (mixed r bytes) =
-    ap (bit_xor (earlier r bytes)) (sym (after_bytes-taken_apart 0 (later bytes))) ∙ after_bytes-taken_apart (earlier r bytes) (later bytes) in
-    xor_comm (taken_apart 0 (later bytes)) (earlier r bytes) ∙ joined
+pub after_bytes-block : (r w : ℕ) (bytes : List ℕ) → r < 2 ^ 32 → length bytes ≡ 16 → ((i : ℕ) → get_or bytes i 0 < 256) → w ≡ get_or bytes 0 0 + get_or bytes 1 0 * 256 + get_or bytes 2 0 * 65536 + get_or bytes 3 0 * 16777216 → bit_xor (taken_apart 0 (later bytes)) (earlier (bit_xor r w)) ≡ after_bytes r bytes
+after_bytes-block r w bytes small long fits word =
+    let f0 : get_or bytes 0 0 < 256 = fits 0 in
+    let f1 : get_or bytes 1 0 < 256 = fits 1 in
+    let f2 : get_or bytes 2 0 < 256 = fits 2 in
+    let f3 : get_or bytes 3 0 < 256 = fits 3 in
+    let e0 = mix_first r w (get_or bytes 0 0) (omega arith) in
+    let e1 = mix_byte r w 8 (get_or bytes 1 0) (omega arith) in
+    let e2 = mix_byte r w 16 (get_or bytes 2 0) (omega arith) in
+    let e3 = mix_byte r w 24 (get_or bytes 3 0) (omega arith) in
+    let four : ℕ = bit_xor (bit_xor (bit_xor (after_bits 128 (bit_xor (get_or bytes 0 0) (r % 256))) (after_bits 120 (bit_xor (get_or bytes 1 0) (r / 256 % 256)))) (after_bits 112 (bit_xor (get_or bytes 2 0) (r / 65536 % 256)))) (after_bits 104 (bit_xor (get_or bytes 3 0) (r / 16777216 % 256))) in
+    let same : earlier (bit_xor r w) ≡ four = λ i. bit_xor (bit_xor (bit_xor (after_bits 128 (e0 i)) (after_bits 120 (e1 i))) (after_bits 112 (e2 i))) (after_bits 104 (e3 i)) in
+    let joined : bit_xor four (taken_apart 0 (later bytes)) ≡ taken_apart 0 (mixed r bytes) =
+    ap (bit_xor four) (sym (after_bytes-taken_apart 0 (later bytes))) ∙ after_bytes-taken_apart four (later bytes) in
+    ap (bit_xor (taken_apart 0 (later bytes))) same
+    ∙ xor_comm (taken_apart 0 (later bytes)) four ∙ joined
     ∙ sym (after_bytes-taken_apart 0 (mixed r bytes))
     ∙ sym (after_bytes-mixed r (get_or bytes 0 0) (get_or bytes 1 0) (get_or bytes 2 0) (get_or bytes 3 0) (later bytes) small)
     ∙ ap (after_bytes r) (sym (listed bytes long))

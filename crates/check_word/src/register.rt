@@ -29,7 +29,8 @@ fn after_byte(register: u32, byte: u8) -> u32
 fn after_block(register: u32, block: &[u8; BLOCK]) -> u32
     ensures { result ≡ after_bytes register block.now }
 {
-    let [first, second, third, fourth] = register.to_le_bytes();
+    let word = u32::from_le_bytes([block[0], block[1], block[2], block[3]]);
+    let [first, second, third, fourth] = (register ^ word).to_le_bytes();
     let later = look_up(11, block[4])
         ^ look_up(10, block[5])
         ^ look_up(9, block[6])
@@ -42,10 +43,10 @@ fn after_block(register: u32, block: &[u8; BLOCK]) -> u32
         ^ look_up(2, block[13])
         ^ look_up(1, block[14])
         ^ look_up(0, block[15]);
-    let earlier = look_up(15, block[0] ^ first)
-        ^ look_up(14, block[1] ^ second)
-        ^ look_up(13, block[2] ^ third)
-        ^ look_up(12, block[3] ^ fourth);
+    let earlier = look_up(15, first)
+        ^ look_up(14, second)
+        ^ look_up(13, third)
+        ^ look_up(12, fourth);
     later ^ earlier
 }
 
