@@ -1,0 +1,4 @@
+pub mod Linear
+pub mod TableLemmas
+pub mod BlockLemmas
+pub mod Bound
