@@ -2,7 +2,7 @@
 use Rattle.std.specs.Prelude.{◌≡◌, ◌⊎◌, ℕ, List, Option, None, Some, Result, Ok, Err}
 use Rattle.base_core.specs.CrashImages.{Image}
 use Rattle.base_core.specs.declared.note.Note.{Note}
-use Rattle.base_core.specs.declared.note.Note.TheVariants.{Done, Absent, Limit, DeviceFault, Memory, Damaged}
+use Rattle.base_core.specs.declared.note.Note.TheVariants.{Done, Usage, Absent, Limit, DeviceFault, Memory, Damaged}
 use Rattle.base_core.specs.declared.note.LimitName.TheVariants.{File}
 use Rattle.base_core.specs.declared.note.Device.TheVariants.{Host}
 use Rattle.base_core.specs.declared.action.Backend.TheVariants.{Flat}
@@ -44,6 +44,17 @@ IsCause key value main note = ⊥
 abbrev pub IsFault : Note → Type 0
 IsFault (DeviceFault Host) = Unit {0}
 IsFault note = ⊥
+
+-- The notes of the jobs that are built. Of the devices only the host is used.
+abbrev pub IsBuilt : Note → Type 0
+IsBuilt Done = Unit {0}
+IsBuilt Usage = Unit {0}
+IsBuilt Absent = Unit {0}
+IsBuilt (Limit File _) = Unit {0}
+IsBuilt (DeviceFault Host) = Unit {0}
+IsBuilt Memory = Unit {0}
+IsBuilt (Damaged _ _) = Unit {0}
+IsBuilt note = ⊥
 
 -- the run was refused before anything was changed
 abbrev pub IsRefused : Note → Type 0

@@ -7,7 +7,7 @@ ghost use Rattle.base_core.specs.declared.note.Note.{Note};
 ghost use Rattle.base_core.specs.Notes.{note_text, status_of};
 ghost use Rattle.flat_db.specs.SetPair.{IsOwnRefusal};
 ghost use Rattle.cyr_top.specs.JobOf.{job_of, set_job, CanSet, CanDo};
-ghost use Rattle.cyr_top.specs.StatedResult.{set_note, IsStated, IsCause, IsFault, IsRefused, SetsPair, LeftByJob};
+ghost use Rattle.cyr_top.specs.StatedResult.{set_note, IsStated, IsCause, IsFault, IsBuilt, IsRefused, SetsPair, LeftByJob};
 ghost use Rattle.base_core.specs.OrderedMap.{Map};
 ghost use Rattle.base_core.specs.Transactions.{after_transactions};
 ghost use Rattle.cyr_top.specs.Opened.{EachOpens, KeepsPrefix, backend_of, transactions_of};
@@ -22,7 +22,8 @@ fn note_of(set: Result<(), SetFault>) -> Note
     ensures note { result ≡ set_note set }
     ensures fault { IsFault result ↔ (set ≡ Err SetFault.DiskFault) }
     ensures refused { IsRefused result → IfErr set IsOwnRefusal × IsErr set }
-    ensures built { result ≡ Note.Usage → ⊥ }
+    ensures no_usage { result ≡ Note.Usage → ⊥ }
+    ensures built { IsBuilt result }
 {
     match set {
         Ok(()) => Note::Done,
@@ -48,7 +49,8 @@ fn set_flat<H: Host>(alloc: Global, key: &[u8], value: &[u8], host: &mut H) -> N
     ensures durable { result ≡ Note.Done → IsDurable (H.state host.new) }
     ensures cause { IsFault result → Rose (H.state host.old).faults (H.state host.new).faults }
     ensures no_fault { (IsFault result → ⊥) → (H.state host.new).faults ≡ (H.state host.old).faults }
-    ensures built { result ≡ Note.Usage → ⊥ }
+    ensures no_usage { result ≡ Note.Usage → ⊥ }
+    ensures built { IsBuilt result }
     ensures rest { H.disk_rest host.old host.new }
 {
     note_of(set_pair(alloc, host, key, value))
@@ -65,7 +67,8 @@ fn do_job<H: Host>(alloc: Global, job: &Job, host: &mut H) -> Note
     ensures durable { result ≡ Note.Done → IsDurable (H.state host.new) }
     ensures cause { IsFault result → Rose (H.state host.old).faults (H.state host.new).faults }
     ensures no_fault { (IsFault result → ⊥) → (H.state host.new).faults ≡ (H.state host.old).faults }
-    ensures built { result ≡ Note.Usage → ⊥ }
+    ensures no_usage { result ≡ Note.Usage → ⊥ }
+    ensures built { IsBuilt result }
     ensures rest { H.disk_rest host.old host.new }
 {
     match job {
@@ -90,6 +93,7 @@ fn perform<H: Host>(alloc: Global, words: &[String], host: &mut H) -> Note
     ensures durable { result ≡ Note.Done → IsDurable (H.state host.new) }
     ensures cause { IsFault result → Rose (H.state host.old).faults (H.state host.new).faults }
     ensures no_fault { (IsFault result → ⊥) → (H.state host.new).faults ≡ (H.state host.old).faults }
+    ensures built { IsBuilt result }
     ensures rest { H.disk_rest host.old host.new }
 {
     match job(alloc, words) {
@@ -131,6 +135,9 @@ pub fn run<H: Host>(alloc: Global, words: &[String], host: &mut H) -> Outcome
     ensures committed { (job : Job) → (m : Map) → job_of (map string_bytes words.now) ≡ Some job → EachOpens (backend_of job) (H.state host.old) m
         → result.note ≡ Note.Done → EachOpens (backend_of job) (H.state host.new) (after_transactions m (transactions_of job)) }
     ensures uncommitted { (backend : Backend) → (m : Map) → EachOpens backend (H.state host.old) m → IsRefused result.note → EachOpens backend (H.state host.new) m }
+
+    // There is no other note than those of the jobs that are built, and no other device than the host.
+    ensures built { IsBuilt result.note }
 
     // A device fault is answered exactly where the count rose, or stands at its last value.
     ensures cause { IsFault result.note → Rose (H.state host.old).faults (H.state host.new).faults }
