@@ -1,0 +1,6 @@
+mod Parts
+mod Joined
+mod CheckBound
+mod HeaderLemmas
+mod RecordLemmas
+mod IndexLemmas
