@@ -1,8 +1,8 @@
 -- Fields one after the other.
-use Rattle.std.proofs.Common.{◌≡◌, ℕ, zero, suc, ◌+◌, ◌^◌, ◌<◌, ◌≤◌, List, [], ◌∷◌, ◌++◌, length, refl, sym, ap, ◌∙◌, arith, append_assoc}
+use Rattle.std.proofs.Common.{◌≡◌, ℕ, zero, suc, ◌+◌, ◌^◌, ◌<◌, ◌≤◌, List, [], ◌∷◌, ◌++◌, length, take, refl, sym, ap, ◌∙◌, arith, append_assoc}
 use Rattle.std.specs.List.{AllByRecursion, concat}
 use Rattle.std.specs.Int.{w32, w64, to_be_bytes}
-use Rattle.std.proofs.lemmas.List.{length-append, take_all}
+use Rattle.std.proofs.lemmas.List.{append-nil, length-append, take_all}
 use Rattle.std.proofs.lemmas.Nat.{from_be_bytes-to_be_bytes_4, from_be_bytes-to_be_bytes_8}
 use Rattle.check_word.specs.CheckWord.{check_word}
 use Rattle.index_form.specs.Fields.{part, u32_in, u64_in}
@@ -63,10 +63,6 @@ concat-same (x ∷ xs) (y ∷ ys) l e =
     let rest = concat-same xs ys others split.1 in
     λ i. split.0 i ∷ rest i
 
--- one field more, before those that are joined
-pub behind : (t a b f rest : List ℕ) → t ≡ a ++ rest → a ≡ b ++ f → t ≡ b ++ (f ++ rest)
-behind t a b f rest e h = e ∙ ap (λ (x : List ℕ). x ++ rest) h ∙ append_assoc b f rest
-
 -- ---- bytes
 
 abbrev pub Small : List ℕ → Type 0
@@ -124,3 +120,18 @@ are_bytes b at count fits within = record { size = length-part b at count within
 pub whole_part : (b : List ℕ) (count : ℕ) → length b ≡ count → part b 0 count ≡ b
 unfolding part
 whole_part b count e = take_all count b (omega (arith, e))
+
+-- ---- fields that are put one behind the other
+
+abbrev pub joined : List ℕ → List (List ℕ) → List ℕ
+joined front [] = front
+joined front (x ∷ xs) = joined (front ++ x) xs
+
+pub joined-concat : (front : List ℕ) (xs : List (List ℕ)) → joined front xs ≡ front ++ concat xs
+joined-concat front [] = sym (append-nil front)
+joined-concat front (x ∷ xs) = joined-concat (front ++ x) xs ∙ append_assoc front x (concat xs)
+
+-- a field behind what was put so far
+pub one_more : (at count : ℕ) (field stated front old new : List ℕ) → field ≡ stated → length stated ≡ count → take (at + length field) new ≡ take at old ++ field → take at old ≡ front → take (at + count) new ≡ front ++ stated
+one_more at count field stated front old new same size put so_far =
+    ap (λ (n : ℕ). take (at + n) new) (sym size ∙ ap (λ (x : List ℕ). length x) (sym same)) ∙ put ∙ (λ i. so_far i ++ same i)

@@ -30,7 +30,8 @@ pub(crate) fn u64_at(bytes: &[u8], at: usize) -> u64
 /// So many bytes at an offset.
 pub(crate) fn part_at(bytes: &[u8], at: usize, count: usize) -> &[u8]
     requires { at + count ≤ length bytes.now }
-    ensures { result.now ≡ part bytes.now at count }
+    ensures bytes { result.now ≡ part bytes.now at count }
+    ensures size { length result.now ≡ count }
 {
     &bytes[at..at + count]
 }

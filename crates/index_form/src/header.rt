@@ -132,7 +132,7 @@ pub fn write_header(header: &IndexHeader) -> [u8; HEADER_SIZE]
     put(&mut bytes, 104, &header.recentuid.to_be_bytes());
     put(&mut bytes, 108, &header.recenttime.to_be_bytes());
     put(&mut bytes, 112, &header.spare_bytes);
-    let word = check(&bytes[..124]);
+    let word = check(part_at(&bytes, 0, 124));
     put(&mut bytes, 124, &word.to_be_bytes());
     bytes
 }

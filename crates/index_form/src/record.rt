@@ -2,7 +2,7 @@
 ghost use Rattle.std.specs.Prelude.{◌≡◌};
 ghost use Rattle.index_form.specs.Spelling.{record_bytes};
 
-use crate::fields::put;
+use crate::fields::{part_at, put};
 use crate::sizes::RECORD_SIZE;
 use check_word::check;
 
@@ -62,7 +62,7 @@ pub fn write_record(item: &IndexRecord) -> [u8; RECORD_SIZE]
     put(&mut bytes, 60, &item.digest);
     put(&mut bytes, 80, &item.modseq.to_be_bytes());
     put(&mut bytes, 88, &item.cache_check.to_be_bytes());
-    let word = check(&bytes[..RECORD_SIZE - 4]);
+    let word = check(part_at(&bytes, 0, RECORD_SIZE - 4));
     put(&mut bytes, RECORD_SIZE - 4, &word.to_be_bytes());
     bytes
 }

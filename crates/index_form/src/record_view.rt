@@ -93,7 +93,8 @@ impl<'a> RecordView<'a> {
 
     /// The mailbox's own flags, a bit each.
     pub fn user_flags(&self) -> &'a [u8]
-        ensures { result.now ≡ (record_of self.now).user_flags }
+        ensures bytes { result.now ≡ (record_of self.now).user_flags }
+        ensures size { length result.now ≡ 16 }
     {
         part_at(self.bytes, 36, 16)
     }
@@ -114,7 +115,8 @@ impl<'a> RecordView<'a> {
 
     /// The SHA-1 of the whole message file.
     pub fn digest(&self) -> &'a [u8]
-        ensures { result.now ≡ (record_of self.now).digest }
+        ensures bytes { result.now ≡ (record_of self.now).digest }
+        ensures size { length result.now ≡ 20 }
     {
         part_at(self.bytes, 60, 20)
     }
@@ -140,7 +142,7 @@ impl<'a> RecordView<'a> {
         ensures spelled { IsTrue result ↔ (bytes_of self.now ≡ record_bytes (record_of self.now)) }
     {
         let word = u32_at(self.bytes, RECORD_SIZE - 4);
-        word == check(&self.bytes[..RECORD_SIZE - 4])
+        word == check(part_at(self.bytes, 0, RECORD_SIZE - 4))
     }
 
     /// All fields as they stand, whether the check word is right or not.
