@@ -1,8 +1,9 @@
 // A record of an index.
-ghost use Rattle.std.specs.Prelude.{◌≡◌};
-ghost use Rattle.index_form.specs.Spelling.{record_bytes};
+ghost use Rattle.std.specs.Prelude.{◌≡◌, ◌↔◌, IsTrue, length, take};
+ghost use Rattle.index_form.specs.Reading.{ends_with_check, record_in};
+ghost use Rattle.index_form.specs.Spelling.{bytes_of_record, record_bytes, record_front};
 
-use crate::fields::{part_at, put};
+use crate::fields::{part_at, put, u32_at, u64_at};
 use crate::sizes::RECORD_SIZE;
 use check_word::check;
 
@@ -40,6 +41,45 @@ pub struct IndexRecord {
     pub modseq: u64,
     /// The check word of its record in the cache file.
     pub cache_check: u32,
+}
+
+/// The check word at the end of a record's bytes is that of the bytes before it.
+pub(crate) fn is_record_checked(bytes: &[u8]) -> bool
+    requires { length bytes.now ≡ bytes_of_record }
+    ensures value { result ≡ ends_with_check bytes.now bytes_of_record }
+    ensures spelled { IsTrue result ↔ (bytes.now ≡ record_bytes (record_in bytes.now)) }
+{
+    let word = u32_at(bytes, RECORD_SIZE - 4);
+    word == check(part_at(bytes, 0, RECORD_SIZE - 4))
+}
+
+/// The fields that stand in a record's bytes.
+pub(crate) fn record_at(bytes: &[u8]) -> IndexRecord
+    requires { length bytes.now ≡ bytes_of_record }
+    ensures value { result ≡ record_in bytes.now }
+    ensures spelled { record_front result ≡ take 92 bytes.now }
+{
+    let mut user_flags = [0u8; 16];
+    user_flags.copy_from_slice(part_at(bytes, 36, 16));
+    let mut digest = [0u8; 20];
+    digest.copy_from_slice(part_at(bytes, 60, 20));
+    IndexRecord {
+        uid: u32_at(bytes, 0),
+        internaldate: u32_at(bytes, 4),
+        sentdate: u32_at(bytes, 8),
+        size: u32_at(bytes, 12),
+        header_size: u32_at(bytes, 16),
+        gmtime: u32_at(bytes, 20),
+        cache_offset: u32_at(bytes, 24),
+        last_updated: u32_at(bytes, 28),
+        system_flags: u32_at(bytes, 32),
+        user_flags,
+        content_lines: u32_at(bytes, 52),
+        cache_version: u32_at(bytes, 56),
+        digest,
+        modseq: u64_at(bytes, 80),
+        cache_check: u32_at(bytes, 88),
+    }
 }
 
 /// The 96 bytes of a record: each field as it is, and the check word of the bytes before it.

@@ -1,13 +1,10 @@
 // One record, read in place.
-ghost use Rattle.std.specs.Prelude.{◌≡◌, length, take, IsTrue, ◌↔◌};
-ghost use Rattle.index_form.specs.Fields.{part};
+ghost use Rattle.std.specs.Prelude.{◌≡◌, ◌↔◌, IsTrue, length, take};
 ghost use Rattle.index_form.specs.Reading.{ends_with_check};
 ghost use Rattle.index_form.specs.Spelling.{bytes_of_record, record_bytes, record_front};
 
 use crate::fields::{part_at, u32_at, u64_at};
-use crate::record::IndexRecord;
-use crate::sizes::RECORD_SIZE;
-use check_word::check;
+use crate::record::{IndexRecord, is_record_checked, record_at};
 
 /// One record of an index, in the file's own bytes.
 #[derive(Clone, Copy, Debug)]
@@ -141,8 +138,7 @@ impl<'a> RecordView<'a> {
         // The bytes are the spelling of what is read from them.
         ensures spelled { IsTrue result ↔ (bytes_of self.now ≡ record_bytes (record_of self.now)) }
     {
-        let word = u32_at(self.bytes, RECORD_SIZE - 4);
-        word == check(part_at(self.bytes, 0, RECORD_SIZE - 4))
+        is_record_checked(self.bytes)
     }
 
     /// All fields as they stand, whether the check word is right or not.
@@ -150,26 +146,6 @@ impl<'a> RecordView<'a> {
         ensures value { result ≡ record_of self.now }
         ensures spelled { record_front result ≡ take 92 (bytes_of self.now) }
     {
-        let mut user_flags = [0u8; 16];
-        user_flags.copy_from_slice(self.user_flags());
-        let mut digest = [0u8; 20];
-        digest.copy_from_slice(self.digest());
-        IndexRecord {
-            uid: self.uid(),
-            internaldate: self.internaldate(),
-            sentdate: self.sentdate(),
-            size: self.size(),
-            header_size: self.header_size(),
-            gmtime: self.gmtime(),
-            cache_offset: self.cache_offset(),
-            last_updated: self.last_updated(),
-            system_flags: self.system_flags(),
-            user_flags,
-            content_lines: self.content_lines(),
-            cache_version: self.cache_version(),
-            digest,
-            modseq: self.modseq(),
-            cache_check: self.cache_check(),
-        }
+        record_at(self.bytes)
     }
 }

@@ -1,5 +1,5 @@
-use Rattle.std.proofs.Common.{◌≡◌, ℕ, List, [], length, take, refl, sym, ap, ◌∙◌, arith, replicate}
-use Rattle.std.specs.Int.{w32, w64, to_be_bytes}
+use Rattle.std.proofs.Common.{◌≡◌, [], length, take, refl, sym, ap, ◌∙◌, arith, replicate}
+use Rattle.std.specs.Int.{w32, to_be_bytes}
 use Rattle.check_word.specs.CheckWord.{check_word}
 use Rattle.index_form.specs.Fields.{part}
 use Rattle.index_form.specs.Spelling.{header_fields, header_front, header_bytes}

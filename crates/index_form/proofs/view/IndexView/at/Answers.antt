@@ -1,4 +1,4 @@
-use Rattle.std.proofs.Common.{◌≡◌, ℕ, List, Some, ap, sym, ◌∙◌}
+use Rattle.std.proofs.Common.{ℕ, List, Some, ap, sym, ◌∙◌}
 use Rattle.index_form.specs.Reading.{place_in}
 use Rattle.index_form.proofs.IndexLemmas.{get-places_of}
 use Rattle.index_form.proofs.view.IndexView.at.Goals as goal
