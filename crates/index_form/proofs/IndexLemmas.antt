@@ -11,34 +11,34 @@ use Rattle.index_form.specs.declared.fault.IndexFault.{IndexFault}
 use Rattle.index_form.specs.declared.header.IndexHeader.{IndexHeader}
 use Rattle.index_form.specs.declared.record.IndexRecord.{IndexRecord}
 use Rattle.index_form.specs.Fields.{part}
-use Rattle.index_form.specs.Reading.{Place, place_in, places_in, places_of, header_in, first_fault, index_read}
+use Rattle.index_form.specs.Reading.{StoredRecord, stored_record, stored_records, records_of, header_in, first_fault, index_read}
 use Rattle.index_form.specs.Spelling.{IsHeader, IsRecord, IsIndex, header_front, header_bytes, record_front, record_bytes, index_bytes}
 use Rattle.index_form.specs.Laws.{as_written, WrittenIsRead, ReadIsWritten}
 use Rattle.index_form.proofs.Parts.{IsBytes, IsBytes-part, IsBytes-drop}
 use Rattle.index_form.proofs.Joined.{IsBytes-Small, whole_part}
 use Rattle.index_form.proofs.HeaderLemmas.{length-header_front, header_bytes-header_in, first_fault-header_bytes, Passes-none}
-use Rattle.index_form.proofs.RecordLemmas.{length-record_front, IsRecord-record_in, record_bytes-record_in, place_in-record_bytes}
+use Rattle.index_form.proofs.RecordLemmas.{length-record_front, IsRecord-record_in, record_bytes-record_in, stored_record-record_bytes}
 
-pub length-places_in : (n : ℕ) (b : List ℕ) → length (places_in n b) ≡ n
-length-places_in zero b = refl
-length-places_in (suc n) b = ap suc (length-places_in n (drop 96 b))
+pub length-stored_records : (n : ℕ) (b : List ℕ) → length (stored_records n b) ≡ n
+length-stored_records zero b = refl
+length-stored_records (suc n) b = ap suc (length-stored_records n (drop 96 b))
 
 -- ---- the record at a place
 
-get-places_in : (n place : ℕ) (b : List ℕ) → place < n → slice_get (places_in n b) place ≡ Some (place_in (part b (96 * place) 96))
+get-stored_records : (n place : ℕ) (b : List ℕ) → place < n → slice_get (stored_records n b) place ≡ Some (stored_record (part b (96 * place) 96))
 unfolding part
-get-places_in zero place b lt = absurd (omega arith)
-get-places_in (suc n) zero b lt = refl
-get-places_in (suc n) (suc place) b lt =
+get-stored_records zero place b lt = absurd (omega arith)
+get-stored_records (suc n) zero b lt = refl
+get-stored_records (suc n) (suc place) b lt =
     let start : 96 + 96 * place ≡ 96 * suc place = omega arith in
-    get-places_in n place (drop 96 b) (omega arith)
-    ∙ ap (λ (x : List ℕ). Some (place_in (take 96 x))) (drop-drop (96 * place) 96 b ∙ ap (λ (k : ℕ). drop k b) start)
+    get-stored_records n place (drop 96 b) (omega arith)
+    ∙ ap (λ (x : List ℕ). Some (stored_record (take 96 x))) (drop-drop (96 * place) 96 b ∙ ap (λ (k : ℕ). drop k b) start)
 
-pub get-places_of : (file : List ℕ) (place : ℕ) → place < (header_in file).num_records → slice_get (places_of file) place ≡ Some (place_in (part file (128 + 96 * place) 96))
+pub get-records_of : (file : List ℕ) (place : ℕ) → place < (header_in file).num_records → slice_get (records_of file) place ≡ Some (stored_record (part file (128 + 96 * place) 96))
 unfolding part
-get-places_of file place lt =
-    get-places_in (header_in file).num_records place (drop 128 file) lt
-    ∙ ap (λ (x : List ℕ). Some (place_in (take 96 x))) (drop-drop (96 * place) 128 file)
+get-records_of file place lt =
+    get-stored_records (header_in file).num_records place (drop 128 file) lt
+    ∙ ap (λ (x : List ℕ). Some (stored_record (take 96 x))) (drop-drop (96 * place) 128 file)
 
 -- ---- what is written is read
 
@@ -56,15 +56,15 @@ length-records (r ∷ rs) is =
     ap length (flat_map-cons record_bytes r rs) ∙ length-append (record_bytes r) (flat_map record_bytes rs)
     ∙ omega (arith, length-record_bytes r is.0, length-records rs is.1)
 
-places-written : (rs : List IndexRecord) (rest : List ℕ) → AllByRecursion IsRecord rs → places_in (length rs) (flat_map record_bytes rs ++ rest) ≡ map as_written rs
-places-written [] rest is = refl
-places-written (r ∷ rs) rest is =
+records-written : (rs : List IndexRecord) (rest : List ℕ) → AllByRecursion IsRecord rs → stored_records (length rs) (flat_map record_bytes rs ++ rest) ≡ map as_written rs
+records-written [] rest is = refl
+records-written (r ∷ rs) rest is =
     let len = length-record_bytes r is.0 in
     let regrouped : flat_map record_bytes (r ∷ rs) ++ rest ≡ record_bytes r ++ (flat_map record_bytes rs ++ rest) = ap (λ (x : List ℕ). x ++ rest) (flat_map-cons record_bytes r rs) ∙ append_assoc (record_bytes r) (flat_map record_bytes rs) rest in
     let front : take 96 (flat_map record_bytes (r ∷ rs) ++ rest) ≡ record_bytes r = ap (take 96) regrouped ∙ take_at (record_bytes r) (flat_map record_bytes rs ++ rest) 96 len in
     let back : drop 96 (flat_map record_bytes (r ∷ rs) ++ rest) ≡ flat_map record_bytes rs ++ rest = ap (drop 96) regrouped ∙ drop_at (record_bytes r) (flat_map record_bytes rs ++ rest) 96 len in
-    let first : place_in (take 96 (flat_map record_bytes (r ∷ rs) ++ rest)) ≡ as_written r = ap place_in front ∙ place_in-record_bytes (record_bytes r) r is.0 (omega (arith, len)) (whole_part (record_bytes r) 96 len) in
-    let others : places_in (length rs) (drop 96 (flat_map record_bytes (r ∷ rs) ++ rest)) ≡ map as_written rs = ap (places_in (length rs)) back ∙ places-written rs rest is.1 in
+    let first : stored_record (take 96 (flat_map record_bytes (r ∷ rs) ++ rest)) ≡ as_written r = ap stored_record front ∙ stored_record-record_bytes (record_bytes r) r is.0 (omega (arith, len)) (whole_part (record_bytes r) 96 len) in
+    let others : stored_records (length rs) (drop 96 (flat_map record_bytes (r ∷ rs) ++ rest)) ≡ map as_written rs = ap (stored_records (length rs)) back ∙ records-written rs rest is.1 in
     λ i. first i ∷ others i
 
 -- what the bytes of an index are read as, whatever follows
@@ -85,15 +85,15 @@ module _ (h : IndexHeader) (rs : List IndexRecord) (rest : List ℕ) (is : IsInd
   header_again : (first_fault (index_bytes h rs ++ rest) ≡ None) × (header_in (index_bytes h rs ++ rest) ≡ h)
   header_again = first_fault-header_bytes (index_bytes h rs ++ rest) h is.header long_enough header_front_of
 
-  places_again : places_of (index_bytes h rs ++ rest) ≡ map as_written rs
-  places_again =
+  records_again : records_of (index_bytes h rs ++ rest) ≡ map as_written rs
+  records_again =
       let count : (header_in (index_bytes h rs ++ rest)).num_records ≡ length rs = ap (λ (k : IndexHeader). k.num_records) header_again.1 ∙ is.count in
-      (λ i. places_in (count i) (records_behind i)) ∙ places-written rs rest is.records
+      (λ i. stored_records (count i) (records_behind i)) ∙ records-written rs rest is.records
 
 pub is_read : (b : List ℕ) (h : IndexHeader) (rs : List IndexRecord) (rest : List ℕ) → IsIndex h rs → b ≡ index_bytes h rs ++ rest → (first_fault b ≡ None) × (header_in b ≡ h)
 is_read b h rs rest is e = subst (λ (b : List ℕ). (first_fault b ≡ None) × (header_in b ≡ h)) (sym e) (header_again h rs rest is)
 
-pub index_read-none : (file : List ℕ) → first_fault file ≡ None → index_read file ≡ Ok (header_in file, places_of file)
+pub index_read-none : (file : List ℕ) → first_fault file ≡ None → index_read file ≡ Ok (header_in file, records_of file)
 index_read-none file e = rw e refl
 
 index_read-some : (file : List ℕ) (f : IndexFault) → first_fault file ≡ Some f → index_read file ≡ Err f
@@ -102,8 +102,8 @@ index_read-some file f e = rw e refl
 pub written_is_read : WrittenIsRead
 written_is_read h rs rest is =
     let again = header_again h rs rest is in
-    let places = places_again h rs rest is in
-    index_read-none (index_bytes h rs ++ rest) again.0 ∙ (λ i. Ok (again.1 i, places i))
+    let records = records_again h rs rest is in
+    index_read-none (index_bytes h rs ++ rest) again.0 ∙ (λ i. Ok (again.1 i, records i))
 
 -- ---- what is read is what is written
 
@@ -112,25 +112,26 @@ pub record Written (n : ℕ) (b : List ℕ) (rs : List IndexRecord) : Type 0 whe
   pub records : AllByRecursion IsRecord rs
   pub bytes : take (96 * n) b ≡ flat_map record_bytes rs
 
-record_written : (b : List ℕ) (r : IndexRecord) → IsBytes b → 96 ≤ length b → place_in (take 96 b) ≡ as_written r → IsRecord r × (take 96 b ≡ record_bytes r)
+record_written : (b : List ℕ) (r : IndexRecord) → IsBytes b → 96 ≤ length b → stored_record (take 96 b) ≡ as_written r → IsRecord r × (take 96 b ≡ record_bytes r)
 unfolding part
 record_written b r fits within e =
     let size : length (take 96 b) ≡ 96 = omega (arith, length-take 96 b) in
     let small : IsBytes (take 96 b) = IsBytes-part b 0 96 fits in
-    let fields = ap (λ (p : Place). p.fields) e in
-    let right = ap (λ (p : Place). p.check_right) e in
-    (subst IsRecord fields (IsRecord-record_in (take 96 b) small (omega (arith, size))),
-     sym (whole_part (take 96 b) 96 size) ∙ record_bytes-record_in (take 96 b) small (omega (arith, size)) right ∙ ap record_bytes fields)
+    let fields = ap (λ (p : StoredRecord). p.fields) e in
+    let right = ap (λ (p : StoredRecord). p.check_right) e in (
+      subst IsRecord fields (IsRecord-record_in (take 96 b) small (omega (arith, size))),
+      sym (whole_part (take 96 b) 96 size) ∙ record_bytes-record_in (take 96 b) small (omega (arith, size)) right ∙ ap record_bytes fields,
+    )
 
-places_written : (n : ℕ) (b : List ℕ) (rs : List IndexRecord) → IsBytes b → 96 * n ≤ length b → places_in n b ≡ map as_written rs → Written n b rs
-places_written zero b [] fits within e = record { count = refl; records = tt; bytes = refl }
-places_written zero b (r ∷ rs) fits within e = absurd cc
-places_written (suc n) b [] fits within e = absurd cc
-places_written (suc n) b (r ∷ rs) fits within e =
-    let first : place_in (take 96 b) ≡ as_written r = cc in
-    let others : places_in n (drop 96 b) ≡ map as_written rs = cc in
+records_written : (n : ℕ) (b : List ℕ) (rs : List IndexRecord) → IsBytes b → 96 * n ≤ length b → stored_records n b ≡ map as_written rs → Written n b rs
+records_written zero b [] fits within e = record { count = refl; records = tt; bytes = refl }
+records_written zero b (r ∷ rs) fits within e = absurd cc
+records_written (suc n) b [] fits within e = absurd cc
+records_written (suc n) b (r ∷ rs) fits within e =
+    let first : stored_record (take 96 b) ≡ as_written r = cc in
+    let others : stored_records n (drop 96 b) ≡ map as_written rs = cc in
     let one = record_written b r fits (omega arith) first in
-    let more = places_written n (drop 96 b) rs (IsBytes-drop 96 b fits) (omega (arith, length-drop 96 b)) others in
+    let more = records_written n (drop 96 b) rs (IsBytes-drop 96 b fits) (omega (arith, length-drop 96 b)) others in
     let size : 96 * suc n ≡ 96 + 96 * n = omega arith in
     record {
       count = ap suc more.count;
@@ -138,13 +139,13 @@ places_written (suc n) b (r ∷ rs) fits within e =
       bytes = ap (λ (k : ℕ). take k b) size ∙ take-add 96 (96 * n) b ∙ (λ i. one.1 i ++ more.bytes i) ∙ sym (flat_map-cons record_bytes r rs);
     }
 
-index_written : (file : List ℕ) (h : IndexHeader) (rs : List IndexRecord) → IsBytes file → first_fault file ≡ None → header_in file ≡ h → places_of file ≡ map as_written rs → IsIndex h rs × (take (128 + 96 * h.num_records) file ≡ index_bytes h rs)
+index_written : (file : List ℕ) (h : IndexHeader) (rs : List IndexRecord) → IsBytes file → first_fault file ≡ None → header_in file ≡ h → records_of file ≡ map as_written rs → IsIndex h rs × (take (128 + 96 * h.num_records) file ≡ index_bytes h rs)
 unfolding part
-index_written file h rs fits none header places =
+index_written file h rs fits none header records =
     let p = Passes-none file none in
     let long : 128 + 96 * (header_in file).num_records ≤ length file = p.count in
     let spelled = header_bytes-header_in file fits none in
-    let written = places_written (header_in file).num_records (drop 128 file) rs (IsBytes-drop 128 file fits) (omega (arith, length-drop 128 file)) places in
+    let written = records_written (header_in file).num_records (drop 128 file) rs (IsBytes-drop 128 file fits) (omega (arith, length-drop 128 file)) records in
     let count : h.num_records ≡ (header_in file).num_records = ap (λ (k : IndexHeader). k.num_records) (sym header) in
     let front : take 128 file ≡ header_bytes h = spelled.1 ∙ ap header_bytes header in (
       record { header = subst IsHeader header spelled.0; records = written.records; count = count ∙ written.count },
@@ -156,9 +157,9 @@ read_is_written file h rs small e = go (first_fault file) refl
   where
     go : (f : Option IndexFault) → first_fault file ≡ f → IsIndex h rs × (take (128 + 96 * h.num_records) file ≡ index_bytes h rs)
     go None none =
-        let read : ◌≡◌ {A = Result (IndexHeader × List Place) IndexFault} (Ok (header_in file, places_of file)) (Ok (h, map as_written rs)) = sym (index_read-none file none) ∙ e in
-        let both : ◌≡◌ {A = IndexHeader × List Place} (header_in file, places_of file) (h, map as_written rs) = cc in
-        index_written file h rs (IsBytes-Small file small) none (ap (λ (x : IndexHeader × List Place). x.0) both) (ap (λ (x : IndexHeader × List Place). x.1) both)
+        let read : ◌≡◌ {A = Result (IndexHeader × List StoredRecord) IndexFault} (Ok (header_in file, records_of file)) (Ok (h, map as_written rs)) = sym (index_read-none file none) ∙ e in
+        let both : ◌≡◌ {A = IndexHeader × List StoredRecord} (header_in file, records_of file) (h, map as_written rs) = cc in
+        index_written file h rs (IsBytes-Small file small) none (ap (λ (x : IndexHeader × List StoredRecord). x.0) both) (ap (λ (x : IndexHeader × List StoredRecord). x.1) both)
     go (Some f) some =
-        let clash : ◌≡◌ {A = Result (IndexHeader × List Place) IndexFault} (Err f) (Ok (h, map as_written rs)) = sym (index_read-some file f some) ∙ e in
+        let clash : ◌≡◌ {A = Result (IndexHeader × List StoredRecord) IndexFault} (Err f) (Ok (h, map as_written rs)) = sym (index_read-some file f some) ∙ e in
         absurd cc

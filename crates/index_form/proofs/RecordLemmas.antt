@@ -6,7 +6,7 @@ use Rattle.std.specs.Int.{w32, to_be_bytes}
 use Rattle.std.proofs.lemmas.Bool.{eqb-true, eq-eqb}
 use Rattle.check_word.specs.CheckWord.{check_word}
 use Rattle.index_form.specs.declared.record.IndexRecord.{IndexRecord}
-use Rattle.index_form.specs.Reading.{record_in, ends_with_check, place_in, Place}
+use Rattle.index_form.specs.Reading.{record_in, ends_with_check, stored_record, StoredRecord}
 use Rattle.index_form.specs.Spelling.{IsRecord, record_fields, record_front, record_bytes}
 use Rattle.index_form.specs.Fields.{part}
 use Rattle.index_form.proofs.CheckBound.{check_word-lt}
@@ -97,9 +97,9 @@ unfolding record_bytes
 record_bytes-record_in b fits within right =
     check_is_spelled b 92 fits within (eqb-true _ _ right) ∙ ap (λ (x : List ℕ). x ++ to_be_bytes w32 (check_word x)) (sym (record_front-record_in b fits (omega arith)))
 
-pub place_in-record_bytes : (b : List ℕ) (r : IndexRecord) → IsRecord r → 96 ≤ length b → part b 0 96 ≡ record_bytes r → place_in b ≡ record { fields = r; check_right = true }
+pub stored_record-record_bytes : (b : List ℕ) (r : IndexRecord) → IsRecord r → 96 ≤ length b → part b 0 96 ≡ record_bytes r → stored_record b ≡ record { fields = r; check_right = true }
 unfolding record_bytes
-place_in-record_bytes b r is within e =
+stored_record-record_bytes b r is within e =
     let checked = spelled_is_checked b (record_front r) 92 (length-record_front r is) (omega arith) (record_check-lt r is) e in
     let fields = record_in-record_front b r is (omega arith) checked.0 in
     let right : ends_with_check b 96 ≡ true = eq-eqb _ _ checked.1 in
@@ -110,5 +110,5 @@ check_right-spelled b fits size =
     let whole : part b 0 96 ≡ b = whole_part b 96 size in
     let is = IsRecord-record_in b fits (omega arith) in (
       λ right. sym whole ∙ record_bytes-record_in b fits (omega arith) right,
-      λ e. ap (λ (p : Place). p.check_right) (place_in-record_bytes b (record_in b) is (omega arith) (whole ∙ e)),
+      λ e. ap (λ (p : StoredRecord). p.check_right) (stored_record-record_bytes b (record_in b) is (omega arith) (whole ∙ e)),
     )

@@ -3,11 +3,11 @@ use Rattle.std.specs.Prelude.{◌≡◌, ℕ, ◌+◌, ◌*◌, ◌<◌, true, L
 use Rattle.std.specs.List.{AllByRecursion}
 use Rattle.index_form.specs.declared.header.IndexHeader.{IndexHeader}
 use Rattle.index_form.specs.declared.record.IndexRecord.{IndexRecord}
-use Rattle.index_form.specs.Reading.{Place, index_read}
+use Rattle.index_form.specs.Reading.{StoredRecord, index_read}
 use Rattle.index_form.specs.Spelling.{IsIndex, bytes_of_record, index_bytes}
 
 -- a record as it is written stands with a check word that is right
-abbrev pub as_written : IndexRecord → Place
+abbrev pub as_written : IndexRecord → StoredRecord
 as_written r = record { fields = r; check_right = true }
 
 -- what is written is read, whatever follows it

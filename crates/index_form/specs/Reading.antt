@@ -59,7 +59,7 @@ record_in bytes = record {
   cache_check = u32_in (part bytes 88 4);
 }
 
--- the check word that ends these bytes is that of the bytes before it
+-- the last four of so many bytes are the check word of those before them
 abbrev pub ends_with_check : List ℕ → ℕ → Bool
 ends_with_check bytes size = u32_in (part bytes (size - 4) 4) == check_word (part bytes 0 (size - 4))
 
@@ -75,27 +75,27 @@ first_fault file =
     else None
 
 -- a record as it stands in a file: its fields, and whether its check word is right
-pub record Place : Type 0 where
+pub record StoredRecord : Type 0 where
   pub fields : IndexRecord
   pub check_right : Bool
 
 -- what stands in the bytes of a record
-abbrev pub place_in : List ℕ → Place
-place_in bytes = record { fields = record_in bytes; check_right = ends_with_check bytes bytes_of_record }
+abbrev pub stored_record : List ℕ → StoredRecord
+stored_record bytes = record { fields = record_in bytes; check_right = ends_with_check bytes bytes_of_record }
 
 -- so many records back to back
-abbrev pub places_in : ℕ → List ℕ → List Place
-places_in zero bytes = []
-places_in (suc count) bytes = place_in (take bytes_of_record bytes) ∷ places_in count (drop bytes_of_record bytes)
+abbrev pub stored_records : ℕ → List ℕ → List StoredRecord
+stored_records zero bytes = []
+stored_records (suc count) bytes = stored_record (take bytes_of_record bytes) ∷ stored_records count (drop bytes_of_record bytes)
 
 -- the records of an index without a fault, in the order of the file
-abbrev pub places_of : List ℕ → List Place
-places_of file = places_in (header_in file).num_records (drop 128 file)
+abbrev pub records_of : List ℕ → List StoredRecord
+records_of file = stored_records (header_in file).num_records (drop 128 file)
 
 -- what a file is read as: its header and its records, or the first fault
-abbrev pub index_read : List ℕ → Result (IndexHeader × List Place) IndexFault
+abbrev pub index_read : List ℕ → Result (IndexHeader × List StoredRecord) IndexFault
 index_read file = read (first_fault file)
   where
-    read : Option IndexFault → Result (IndexHeader × List Place) IndexFault
-    read None = Ok (header_in file, places_of file)
+    read : Option IndexFault → Result (IndexHeader × List StoredRecord) IndexFault
+    read None = Ok (header_in file, records_of file)
     read (Some fault) = Err fault

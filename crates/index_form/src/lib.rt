@@ -6,17 +6,20 @@ mod fault;
 mod fields;
 mod header;
 mod laws;
+mod reading;
 mod record;
 mod record_view;
-mod reading;
 mod sizes;
 mod view;
 
 pub use fault::IndexFault;
 pub use header::{IndexHeader, write_header};
 pub use laws::spelling_is_exact;
-pub use record::{IndexRecord, write_record};
 pub use reading::view_index;
+pub use record::{IndexRecord, write_record};
 pub use record_view::RecordView;
 pub use sizes::{HEADER_SIZE, MINOR_VERSION, RECORD_SIZE};
 pub use view::IndexView;
+
+#[cfg(test)]
+mod tests;

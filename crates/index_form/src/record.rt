@@ -1,10 +1,10 @@
 // A record of an index.
-ghost use Rattle.std.specs.Prelude.{◌≡◌, ◌↔◌, IsTrue, length, take};
+ghost use Rattle.std.specs.Prelude.{◌≡◌, ◌-◌, ◌↔◌, IsTrue, length, take};
 ghost use Rattle.index_form.specs.Reading.{ends_with_check, record_in};
 ghost use Rattle.index_form.specs.Spelling.{bytes_of_record, record_bytes, record_front};
 
 use crate::fields::{part_at, put, u32_at, u64_at};
-use crate::sizes::RECORD_SIZE;
+use crate::sizes::{LAST_FIELDS, RECORD_SIZE};
 use check_word::check;
 
 /// What an index says of one message, all but the record's check word.
@@ -57,7 +57,7 @@ pub(crate) fn is_record_checked(bytes: &[u8]) -> bool
 pub(crate) fn record_at(bytes: &[u8]) -> IndexRecord
     requires { length bytes.now ≡ bytes_of_record }
     ensures value { result ≡ record_in bytes.now }
-    ensures spelled { record_front result ≡ take 92 bytes.now }
+    ensures spelled { record_front result ≡ take (bytes_of_record - 4) bytes.now }
 {
     let mut user_flags = [0u8; 16];
     user_flags.copy_from_slice(part_at(bytes, 36, 16));
@@ -78,7 +78,7 @@ pub(crate) fn record_at(bytes: &[u8]) -> IndexRecord
         cache_version: u32_at(bytes, 56),
         digest,
         modseq: u64_at(bytes, 80),
-        cache_check: u32_at(bytes, 88),
+        cache_check: u32_at(bytes, LAST_FIELDS),
     }
 }
 
@@ -101,7 +101,7 @@ pub fn write_record(item: &IndexRecord) -> [u8; RECORD_SIZE]
     put(&mut bytes, 56, &item.cache_version.to_be_bytes());
     put(&mut bytes, 60, &item.digest);
     put(&mut bytes, 80, &item.modseq.to_be_bytes());
-    put(&mut bytes, 88, &item.cache_check.to_be_bytes());
+    put(&mut bytes, LAST_FIELDS, &item.cache_check.to_be_bytes());
     let word = check(part_at(&bytes, 0, RECORD_SIZE - 4));
     put(&mut bytes, RECORD_SIZE - 4, &word.to_be_bytes());
     bytes

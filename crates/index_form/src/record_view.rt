@@ -1,10 +1,11 @@
 // One record, read in place.
-ghost use Rattle.std.specs.Prelude.{◌≡◌, ◌↔◌, IsTrue, length, take};
+ghost use Rattle.std.specs.Prelude.{◌≡◌, ◌-◌, ◌↔◌, IsTrue, length, take};
 ghost use Rattle.index_form.specs.Reading.{ends_with_check};
 ghost use Rattle.index_form.specs.Spelling.{bytes_of_record, record_bytes, record_front};
 
 use crate::fields::{part_at, u32_at, u64_at};
 use crate::record::{IndexRecord, is_record_checked, record_at};
+use crate::sizes::LAST_FIELDS;
 
 /// One record of an index, in the file's own bytes.
 #[derive(Clone, Copy, Debug)]
@@ -129,7 +130,7 @@ impl<'a> RecordView<'a> {
     pub fn cache_check(&self) -> u32
         ensures { result ≡ (record_of self.now).cache_check }
     {
-        u32_at(self.bytes, 88)
+        u32_at(self.bytes, LAST_FIELDS)
     }
 
     /// The record's check word is that of the bytes before it.
@@ -144,7 +145,7 @@ impl<'a> RecordView<'a> {
     /// All fields as they stand, whether the check word is right or not.
     pub fn to_record(&self) -> IndexRecord
         ensures value { result ≡ record_of self.now }
-        ensures spelled { record_front result ≡ take 92 (bytes_of self.now) }
+        ensures spelled { record_front result ≡ take (bytes_of_record - 4) (bytes_of self.now) }
     {
         record_at(self.bytes)
     }

@@ -8,3 +8,6 @@ pub const MINOR_VERSION: u32 = 12;
 
 /// The size of a record in bytes.
 pub const RECORD_SIZE: usize = 96;
+
+/// Where in a record the fields begin that versions may differ in, in bytes.
+pub(crate) const LAST_FIELDS: usize = 88;

@@ -1,7 +1,7 @@
 // An index, read in place.
 ghost use Rattle.std.specs.Prelude.{◌≡◌, ◌≤◌, ◌+◌, ◌*◌, ◌<◌, length, Some, None, slice_get};
 ghost use Rattle.index_form.specs.Fields.{part};
-ghost use Rattle.index_form.specs.Reading.{first_fault, header_in, place_in, places_of};
+ghost use Rattle.index_form.specs.Reading.{first_fault, header_in, stored_record, records_of};
 ghost use Rattle.index_form.specs.Spelling.{bytes_of_record};
 
 use crate::fields::{part_at, u32_at};
@@ -37,7 +37,7 @@ impl<'a> IndexView<'a> {
     /// How many records there are.
     pub fn count(&self) -> u32
         ensures value { result ≡ (header_in (file_of self.now)).num_records }
-        ensures records { result ≡ length (places_of (file_of self.now)) }
+        ensures records { result ≡ length (records_of (file_of self.now)) }
         ensures inside { 128 + bytes_of_record * result ≤ length (file_of self.now) }
     {
         u32_at(self.file, 20)
@@ -47,7 +47,7 @@ impl<'a> IndexView<'a> {
     pub fn at(&self, place: u32) -> RecordView<'a>
         requires { place < (header_in (file_of self.now)).num_records }
         ensures bytes { bytes_of result ≡ part (file_of self.now) (128 + bytes_of_record * place) bytes_of_record }
-        ensures record { slice_get (places_of (file_of self.now)) place ≡ Some (place_in (bytes_of result)) }
+        ensures record { slice_get (records_of (file_of self.now)) place ≡ Some (stored_record (bytes_of result)) }
     {
         let start = HEADER_SIZE + RECORD_SIZE * place as usize;
         RecordView::of(part_at(self.file, start, RECORD_SIZE))
