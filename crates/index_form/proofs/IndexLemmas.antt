@@ -11,9 +11,9 @@ use Rattle.index_form.specs.declared.fault.IndexFault.{IndexFault}
 use Rattle.index_form.specs.declared.header.IndexHeader.{IndexHeader}
 use Rattle.index_form.specs.declared.record.IndexRecord.{IndexRecord}
 use Rattle.index_form.specs.Fields.{part}
-use Rattle.index_form.specs.Reading.{StoredRecord, stored_record, stored_records, records_of, header_in, first_fault, index_read}
+use Rattle.index_form.specs.Reading.{as_written, StoredRecord, stored_record, stored_records, records_of, header_in, first_fault, index_read}
 use Rattle.index_form.specs.Spelling.{IsHeader, IsRecord, IsIndex, header_front, header_bytes, record_front, record_bytes, index_bytes}
-use Rattle.index_form.specs.Laws.{as_written, WrittenIsRead, ReadIsWritten}
+use Rattle.index_form.specs.Laws.{WrittenIsRead, ReadIsWritten}
 use Rattle.index_form.proofs.Parts.{IsBytes, IsBytes-part, IsBytes-drop}
 use Rattle.index_form.proofs.Joined.{IsBytes-Small, whole_part}
 use Rattle.index_form.proofs.HeaderLemmas.{length-header_front, header_bytes-header_in, first_fault-header_bytes, Passes-none}
@@ -90,8 +90,10 @@ module _ (h : IndexHeader) (rs : List IndexRecord) (rest : List ℕ) (is : IsInd
       let count : (header_in (index_bytes h rs ++ rest)).num_records ≡ length rs = ap (λ (k : IndexHeader). k.num_records) header_again.1 ∙ is.count in
       (λ i. stored_records (count i) (records_behind i)) ∙ records-written rs rest is.records
 
-pub is_read : (b : List ℕ) (h : IndexHeader) (rs : List IndexRecord) (rest : List ℕ) → IsIndex h rs → b ≡ index_bytes h rs ++ rest → (first_fault b ≡ None) × (header_in b ≡ h)
-is_read b h rs rest is e = subst (λ (b : List ℕ). (first_fault b ≡ None) × (header_in b ≡ h)) (sym e) (header_again h rs rest is)
+pub is_read : (b : List ℕ) (h : IndexHeader) (rs : List IndexRecord) (rest : List ℕ) → IsIndex h rs → b ≡ index_bytes h rs ++ rest → (first_fault b ≡ None) × (header_in b ≡ h) × (records_of b ≡ map as_written rs)
+is_read b h rs rest is e =
+    let again = header_again h rs rest is in
+    subst (λ (b : List ℕ). (first_fault b ≡ None) × (header_in b ≡ h) × (records_of b ≡ map as_written rs)) (sym e) (again.0, again.1, records_again h rs rest is)
 
 pub index_read-none : (file : List ℕ) → first_fault file ≡ None → index_read file ≡ Ok (header_in file, records_of file)
 index_read-none file e = rw e refl

@@ -1,14 +1,10 @@
 -- Reading and writing are inverse.
-use Rattle.std.specs.Prelude.{◌≡◌, ℕ, ◌+◌, ◌*◌, ◌<◌, true, List, ◌++◌, map, take, Ok}
+use Rattle.std.specs.Prelude.{◌≡◌, ℕ, ◌+◌, ◌*◌, ◌<◌, List, ◌++◌, map, take, Ok}
 use Rattle.std.specs.List.{AllByRecursion}
 use Rattle.index_form.specs.declared.header.IndexHeader.{IndexHeader}
 use Rattle.index_form.specs.declared.record.IndexRecord.{IndexRecord}
-use Rattle.index_form.specs.Reading.{StoredRecord, index_read}
+use Rattle.index_form.specs.Reading.{as_written, index_read}
 use Rattle.index_form.specs.Spelling.{IsIndex, bytes_of_record, index_bytes}
-
--- a record as it is written stands with a check word that is right
-abbrev pub as_written : IndexRecord → StoredRecord
-as_written r = record { fields = r; check_right = true }
 
 -- what is written is read, whatever follows it
 abbrev pub WrittenIsRead : Type 0

@@ -1,5 +1,5 @@
 -- What bytes are read as.
-use Rattle.std.specs.Prelude.{ℕ, zero, suc, ◌+◌, ◌*◌, ◌-◌, ◌==◌, Bool, not, List, [], ◌∷◌, length, take, drop, Option, Some, None, Result, Ok, Err, nat_lt, if◌then◌else◌}
+use Rattle.std.specs.Prelude.{true, ℕ, zero, suc, ◌+◌, ◌*◌, ◌-◌, ◌==◌, Bool, not, List, [], ◌∷◌, length, take, drop, Option, Some, None, Result, Ok, Err, nat_lt, if◌then◌else◌}
 use Rattle.check_word.specs.CheckWord.{check_word}
 use Rattle.index_form.specs.declared.fault.IndexFault.{IndexFault}
 use Rattle.index_form.specs.declared.fault.IndexFault.TheVariants.{Short, Check, MinorVersion, RecordSize, StartOffset, Count}
@@ -78,6 +78,10 @@ first_fault file =
 pub record StoredRecord : Type 0 where
   pub fields : IndexRecord
   pub check_right : Bool
+
+-- a record as it is written stands with a check word that is right
+abbrev pub as_written : IndexRecord → StoredRecord
+as_written r = record { fields = r; check_right = true }
 
 -- what stands in the bytes of a record
 abbrev pub stored_record : List ℕ → StoredRecord

@@ -1,7 +1,7 @@
 // What a file must be to be read as an index.
-ghost use Rattle.std.specs.Prelude.{◌≡◌, ◌≤◌, ◌++◌, ◌↔◌, List, ℕ, length, take, Some, IfOk, IsOk};
+ghost use Rattle.std.specs.Prelude.{◌≡◌, ◌≤◌, ◌++◌, ◌↔◌, List, ℕ, length, map, take, Some, None, IfOk, IsOk};
 ghost use Rattle.index_form.specs.declared.record.IndexRecord.{IndexRecord};
-ghost use Rattle.index_form.specs.Reading.{first_fault, header_in, ends_with_check};
+ghost use Rattle.index_form.specs.Reading.{as_written, ends_with_check, first_fault, header_in, records_of};
 ghost use Rattle.index_form.specs.Spelling.{IsHeader, IsIndex, header_bytes, index_bytes};
 ghost use Rattle.index_form.specs.Views.{file_of};
 
@@ -48,11 +48,14 @@ fn fault_of(bytes: &[u8]) -> Option<IndexFault>
 /// and the records' check words are not looked at.
 pub fn view_index(bytes: &[u8]) -> Result<IndexView<'_>, IndexFault>
     ensures fault { (f : IndexFault) → (result ≡ Err f) ↔ (first_fault bytes.now ≡ Some f) }
+    ensures ok { IsOk result ↔ (first_fault bytes.now ≡ None) }
+    // The view is of these bytes.
     ensures found { IfOk result (λ view. file_of view ≡ bytes.now) }
     // What is read is spelled so.
     ensures spelled { IsOk result → IsHeader (header_in bytes.now) × (take 128 bytes.now ≡ header_bytes (header_in bytes.now)) }
     // What is spelled so is read.
-    ensures only { (h : IndexHeader) (rs : List IndexRecord) (rest : List ℕ) → IsIndex h rs → bytes.now ≡ index_bytes h rs ++ rest → IsOk result × (header_in bytes.now ≡ h) }
+    ensures only { (h : IndexHeader) (rs : List IndexRecord) (rest : List ℕ) → IsIndex h rs → bytes.now ≡ index_bytes h rs ++ rest
+        → IsOk result × (header_in bytes.now ≡ h) × (records_of bytes.now ≡ map as_written rs) }
 {
     match fault_of(bytes) {
         Some(fault) => Err(fault),

@@ -2,6 +2,7 @@
 
 use super::*;
 use check_word::check;
+use std::test::Fail;
 
 /// But for version, start, size and count, each byte is the offset at which it stands.
 const HEADER: IndexHeader = IndexHeader {
@@ -60,15 +61,33 @@ const RECORD: IndexRecord = IndexRecord {
     cache_check: 0xD8D9_DADB,
 };
 
-/// The file of this header and this record.
-fn header_and_record() -> [u8; 224] {
-    let mut file = [0u8; 224];
-    for (place, byte) in file.iter_mut().enumerate() {
+fn rising() -> [u8; 224] {
+    let mut bytes = [0u8; 224];
+    for (place, byte) in bytes.iter_mut().enumerate() {
         *byte = place as u8;
     }
+    bytes
+}
+
+/// The file of this header and this record.
+fn header_and_record() -> [u8; 224] {
+    let mut file = rising();
     file[8..24].copy_from_slice(b"\0\0\0\x0C\0\0\0\x80\0\0\0\x60\0\0\0\x01");
-    file[124..128].copy_from_slice(&[0x84, 0x6B, 0xFC, 0xAC]);
-    file[220..].copy_from_slice(&[0x7D, 0xFD, 0x6C, 0x93]);
+    let words: [(usize, u8); 8] = [
+        (124, 0x84),
+        (125, 0x6B),
+        (126, 0xFC),
+        (127, 0xAC),
+        (220, 0x7D),
+        (221, 0xFD),
+        (222, 0x6C),
+        (223, 0x93),
+    ];
+    for (place, byte) in words {
+        if place < 224 {
+            file[place] = byte;
+        }
+    }
     file
 }
 

@@ -16,4 +16,6 @@ returns-in-None-clause-spelled c = λ _.
     header_bytes-header_in c.args.bytes.now (λ i. omega (arith, c.type_inv.bytes i)) (sym c.fault_of.ensures ∙ c.in-None.is)
 
 pub returns-in-None-clause-only : goal.returns-in-None-clause-only
-returns-in-None-clause-only c = λ h rs rest is e. (refl, (is_read c.args.bytes.now h rs rest is e).1)
+returns-in-None-clause-only c = λ h rs rest is e.
+    let read = is_read c.args.bytes.now h rs rest is e in
+    (refl, read.1, read.2)
