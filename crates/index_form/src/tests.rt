@@ -92,7 +92,7 @@ fn header_and_record() -> [u8; 224] {
 }
 
 #[test]
-fn header_and_record_are_read_and_written(rt: HostRuntime) -> Result<(), Fail> {
+fn header_and_record_are_read(rt: HostRuntime) -> Result<(), Fail> {
     let file = header_and_record();
     let view = view_index(&file).ok().ok_or("there is no fault")?;
     assert_eq!(rt; view.header(), HEADER);
@@ -101,9 +101,15 @@ fn header_and_record_are_read_and_written(rt: HostRuntime) -> Result<(), Fail> {
     let record = view.at(0);
     assert_eq!(rt; record.to_record(), RECORD);
     assert!(rt; record.check_right());
-    assert_eq!(rt; write_header(&HEADER).as_slice(), &file[..128]);
-    assert_eq!(rt; write_record(&RECORD).as_slice(), &file[128..]);
     Ok(())
+}
+
+#[test]
+fn header_and_record_are_written(rt: HostRuntime) {
+    let file = header_and_record();
+    let (header, record) = file.split_at(128);
+    assert_eq!(rt; write_header(&HEADER).as_slice(), header);
+    assert_eq!(rt; write_record(&RECORD).as_slice(), record);
 }
 
 fn read_one_by_one(view: &RecordView<'_>) -> IndexRecord {
