@@ -1,0 +1,5 @@
+mod Parts
+mod Joined
+mod HeaderLemmas
+mod RecordLemmas
+mod IndexLemmas
