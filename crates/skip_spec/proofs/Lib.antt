@@ -1,0 +1,5 @@
+mod KindLemmas
+mod Meanings
+mod Parts
+mod Places
+mod Unique

@@ -1,0 +1,7 @@
+pub mod Chain
+pub mod Laws
+pub mod Near
+pub mod Opens
+pub mod Records
+pub mod Rows
+pub mod Successor

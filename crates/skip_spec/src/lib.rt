@@ -1,0 +1,7 @@
+//! What a twoskip file means: which map it stands for, when it opens, and which images an unfinished
+//! transaction may leave of it. There are definitions and laws here, and no code.
+#![tactic(auto)]
+
+mod laws;
+
+pub use laws::file_opens_to_one_map;
