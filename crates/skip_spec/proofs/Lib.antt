@@ -1,4 +1,6 @@
+mod Cuts
 mod KindLemmas
+mod Kept
 mod Meanings
 mod Parts
 mod Places

@@ -1,7 +1,10 @@
--- Laws of files.
-use Rattle.std.specs.Prelude.{◌≡◌, ℕ, List}
-use Rattle.base_core.specs.OrderedMap.{Map}
-use Rattle.skip_spec.specs.Opens.{Means, Opens}
+-- Laws of files and images.
+use Rattle.std.specs.Prelude.{◌≡◌, ◌≤◌, ℕ, List, take}
+use Rattle.base_core.specs.OrderedMap.{Map, IsOrderedMap}
+use Rattle.skip_spec.specs.Opens.{Contents, Reads, Means, OnlyLevelOne, Opens, HasDirty}
+use Rattle.skip_spec.specs.Near.{Near}
+
+-- ---- of files
 
 -- a file means at most one map
 abbrev pub MeansOneMap : Type 0
@@ -10,3 +13,27 @@ MeansOneMap = (file : List ℕ) (m n : Map) → Means file m → Means file n �
 -- a file opens to at most one map
 abbrev pub OpensToOneMap : Type 0
 OpensToOneMap = (file : List ℕ) (m n : Map) → Opens file m → Opens file n → m ≡ n
+
+-- the keys of the map that a file means rise strictly
+abbrev pub MeansOrderedMap : Type 0
+MeansOrderedMap = (file : List ℕ) (m : Map) → Means file m → IsOrderedMap m
+
+-- ---- of images
+
+-- an image of an open transaction means the map of its base
+abbrev pub ImagesMeanAlike : Type 0
+ImagesMeanAlike = (base image : List ℕ) (m : Map) → Means base m → Near base image → Means image m
+
+-- where the base has no upper levels, its images have none
+abbrev pub ImagesKeepLevelOne : Type 0
+ImagesKeepLevelOne = (base image : List ℕ) → OnlyLevelOne base → Near base image → OnlyLevelOne image
+
+-- a dirty image that is cut, but not below the committed end, stays near its base and dirty
+abbrev pub CutsStayNear : Type 0
+CutsStayNear =
+    (base image : List ℕ) (says : Contents) (count : ℕ)
+    → Reads base says
+    → Near base image
+    → HasDirty image
+    → says.header.current_size ≤ count
+    → Near base (take count image) × HasDirty (take count image)

@@ -76,17 +76,25 @@ abbrev pub Means : List ℕ → Map → Type 0
 Means file m = (says : Contents) × Reads file says × (pairs says.chain ≡ m) × (IsDirty says.header ⊎ Tidy file says)
 
 -- Until upper levels are read: each put record has level 1.
-abbrev pub OnlyLevelOne : List ℕ → Contents → Type 0
-OnlyLevelOne file says = AllByRecursion (λ at. HasKind file at Put → (head_in file at).level ≡ 1) says.starts
+abbrev pub OnlyLevelOne : List ℕ → Type 0
+OnlyLevelOne file =
+    (says : Contents)
+    × Reads file says
+    × AllByRecursion (λ at. HasKind file at Put → (head_in file at).level ≡ 1) says.starts
 
--- Until recovery is there: the file is clean.
-abbrev pub IsClean : Contents → Type 0
-IsClean says = IsDirty says.header → ⊥
+-- Until recovery is there: DIRTY is not set.
+abbrev pub IsClean : List ℕ → Type 0
+IsClean file = (says : Contents) × Reads file says × (IsDirty says.header → ⊥)
 
--- the file is of a form that is taken up today
-abbrev pub IsBuilt : List ℕ → Type 0
-IsBuilt file = (says : Contents) × Reads file says × OnlyLevelOne file says × IsClean says
+-- The file opens to the map: it means it. The two further fields go when levels are read and when
+-- recovery is there.
+pub record Opens (file : List ℕ) (m : Map) : Type 0 where
+  pub means : Means file m
+  pub levels : OnlyLevelOne file
+  pub clean : IsClean file
 
--- the file opens to the map: it means it, and is of a form that is taken up today
-abbrev pub Opens : List ℕ → Map → Type 0
-Opens file m = Means file m × IsBuilt file
+-- ---- dirty files
+
+-- the file has a right header with DIRTY set
+abbrev pub HasDirty : List ℕ → Type 0
+HasDirty file = (h : Header) × IsHeader h × (take 64 file ≡ header_bytes h) × IsDirty h

@@ -1,8 +1,20 @@
 // Laws over the definitions.
-ghost use Rattle.skip_spec.specs.Laws.{MeansOneMap, OpensToOneMap};
+ghost use Rattle.skip_spec.specs.Laws.{MeansOneMap, OpensToOneMap, MeansOrderedMap, ImagesMeanAlike, ImagesKeepLevelOne, CutsStayNear};
 
-/// A file stands for one map at most, and opens to one at most.
+/// A file means one map at most, whose keys rise strictly, and opens to one at most.
 pub fn file_opens_to_one_map()
     ensures means { MeansOneMap }
     ensures opens { OpensToOneMap }
+    ensures ordered { MeansOrderedMap }
+{}
+
+/// An image that an unfinished transaction or recovery leaves means the committed map.
+pub fn near_images_open_alike()
+    ensures means { ImagesMeanAlike }
+    ensures levels { ImagesKeepLevelOne }
+{}
+
+/// An image of an unfinished transaction stays one where it is cut, but not below the committed end.
+pub fn cuts_stay_near()
+    ensures { CutsStayNear }
 {}

@@ -4,4 +4,4 @@
 
 mod laws;
 
-pub use laws::file_opens_to_one_map;
+pub use laws::{cuts_stay_near, file_opens_to_one_map, near_images_open_alike};
