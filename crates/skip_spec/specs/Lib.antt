@@ -1,4 +1,5 @@
 pub mod Chain
+pub mod Examples
 pub mod Laws
 pub mod Near
 pub mod Opens

@@ -2,6 +2,8 @@
 //! transaction may leave of it. There are definitions and laws here, and no code.
 #![tactic(auto)]
 
+mod examples;
 mod laws;
 
+pub use examples::one_pair_file_opens;
 pub use laws::{cuts_stay_near, file_opens_to_one_map, near_images_open_alike};
