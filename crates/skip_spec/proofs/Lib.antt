@@ -1,7 +1,9 @@
+mod AnAnswer
 mod Cuts
 mod KindLemmas
 mod Kept
 mod Meanings
+mod OneAnswer
 mod OnePair
 mod Parts
 mod Places

@@ -1,6 +1,8 @@
 -- Laws of files and images.
-use Rattle.std.specs.Prelude.{◌≡◌, ◌≤◌, ℕ, List, take}
+use Rattle.std.specs.Prelude.{◌≡◌, ◌≤◌, ℕ, List, take, Option}
 use Rattle.base_core.specs.OrderedMap.{Map, IsOrderedMap}
+use Rattle.base_core.specs.declared.flaw.Damage.{Damage}
+use Rattle.skip_spec.specs.FirstFlaw.{FirstFlaw}
 use Rattle.skip_spec.specs.Opens.{Contents, Reads, Means, OnlyLevelOne, Opens, HasDirty}
 use Rattle.skip_spec.specs.Near.{Near}
 
@@ -37,3 +39,13 @@ CutsStayNear =
     → HasDirty image
     → says.header.current_size ≤ count
     → Near base (take count image) × HasDirty (take count image)
+
+-- ---- of verification
+
+-- verification has one answer at most
+abbrev pub FirstFlawIsUnique : Type 0
+FirstFlawIsUnique = (file : List ℕ) (a b : Option Damage) → FirstFlaw file a → FirstFlaw file b → a ≡ b
+
+-- each file has an answer
+abbrev pub FirstFlawExists : Type 0
+FirstFlawExists = (file : List ℕ) → (answer : Option Damage) × FirstFlaw file answer

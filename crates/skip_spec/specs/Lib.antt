@@ -1,5 +1,6 @@
 pub mod Chain
 pub mod Examples
+pub mod FirstFlaw
 pub mod Laws
 pub mod Near
 pub mod Opens

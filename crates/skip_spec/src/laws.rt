@@ -1,5 +1,5 @@
 // Laws over the definitions.
-ghost use Rattle.skip_spec.specs.Laws.{MeansOneMap, OpensToOneMap, MeansOrderedMap, ImagesMeanAlike, ImagesKeepLevelOne, CutsStayNear};
+ghost use Rattle.skip_spec.specs.Laws.{MeansOneMap, OpensToOneMap, MeansOrderedMap, ImagesMeanAlike, ImagesKeepLevelOne, CutsStayNear, FirstFlawExists, FirstFlawIsUnique};
 
 /// A file means one map at most, whose keys rise strictly, and opens to one at most.
 pub fn file_opens_to_one_map()
@@ -17,4 +17,10 @@ pub fn near_images_open_alike()
 /// An image of an unfinished transaction stays one where it is cut, but not below the committed end.
 pub fn cuts_stay_near()
     ensures { CutsStayNear }
+{}
+
+/// Verification of a file has one answer: the first flaw and its place, or none.
+pub fn file_has_one_first_flaw()
+    ensures unique { FirstFlawIsUnique }
+    ensures exists { FirstFlawExists }
 {}

@@ -6,4 +6,6 @@ mod examples;
 mod laws;
 
 pub use examples::one_pair_file_opens;
-pub use laws::{cuts_stay_near, file_opens_to_one_map, near_images_open_alike};
+pub use laws::{
+    cuts_stay_near, file_has_one_first_flaw, file_opens_to_one_map, near_images_open_alike,
+};
