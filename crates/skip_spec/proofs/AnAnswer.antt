@@ -156,7 +156,7 @@ next_is file starts at e some =
     let pointer = pointer_under_end file at in
     leads file starts at pointer (eqb pointer 0) (is_of file pointer Gone) refl refl all.1.0 some
 
-live_below : (file : List ℕ) (passed : List Entry) (at : ℕ) → live_flaw file passed at ≡ None → IsBelow (latest_key passed) (key_in file at)
+pub live_below : (file : List ℕ) (passed : List Entry) (at : ℕ) → live_flaw file passed at ≡ None → IsBelow (latest_key passed) (key_in file at)
 unfolding live_flaw
 live_below file passed at e = let all = all_none (live_checks file passed at) e in below (latest_key passed) (key_in file at) (holds _ at _ all.1.1.1.0)
 

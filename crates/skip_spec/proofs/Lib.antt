@@ -1,5 +1,6 @@
 mod AnAnswer
 mod Cuts
+mod Flawless
 mod KindLemmas
 mod Kept
 mod Meanings

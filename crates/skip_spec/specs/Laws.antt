@@ -1,5 +1,5 @@
 -- Laws of files and images.
-use Rattle.std.specs.Prelude.{◌≡◌, ◌≤◌, ℕ, List, take, Option}
+use Rattle.std.specs.Prelude.{◌≡◌, ◌≤◌, ℕ, List, take, Option, None, ◌<◌, slice_index}
 use Rattle.base_core.specs.OrderedMap.{Map, IsOrderedMap}
 use Rattle.base_core.specs.declared.flaw.Damage.{Damage}
 use Rattle.skip_spec.specs.FirstFlaw.{FirstFlaw}
@@ -41,6 +41,14 @@ CutsStayNear =
     → Near base (take count image) × HasDirty (take count image)
 
 -- ---- of verification
+
+-- each element is a byte
+abbrev pub AreBytes : List ℕ → Type 0
+AreBytes file = (i : ℕ) → slice_index file i < 256
+
+-- a file in which verification finds no flaw opens
+abbrev pub FlawlessOpens : Type 0
+FlawlessOpens = (file : List ℕ) → AreBytes file → FirstFlaw file None → (m : Map) × Opens file m
 
 -- verification has one answer at most
 abbrev pub FirstFlawIsUnique : Type 0

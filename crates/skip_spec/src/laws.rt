@@ -1,5 +1,5 @@
 // Laws over the definitions.
-ghost use Rattle.skip_spec.specs.Laws.{MeansOneMap, OpensToOneMap, MeansOrderedMap, ImagesMeanAlike, ImagesKeepLevelOne, CutsStayNear, FirstFlawExists, FirstFlawIsUnique};
+ghost use Rattle.skip_spec.specs.Laws.{MeansOneMap, OpensToOneMap, MeansOrderedMap, ImagesMeanAlike, ImagesKeepLevelOne, CutsStayNear, FirstFlawExists, FlawlessOpens, FirstFlawIsUnique};
 
 /// A file means one map at most, whose keys rise strictly, and opens to one at most.
 pub fn file_opens_to_one_map()
@@ -23,4 +23,9 @@ pub fn cuts_stay_near()
 pub fn file_has_one_first_flaw()
     ensures unique { FirstFlawIsUnique }
     ensures exists { FirstFlawExists }
+{}
+
+/// A file in which verification finds no flaw opens.
+pub fn flawless_file_opens()
+    ensures { FlawlessOpens }
 {}
