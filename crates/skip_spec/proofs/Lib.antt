@@ -8,4 +8,5 @@ mod OneAnswer
 mod OnePair
 mod Parts
 mod Places
+mod Sound
 mod Unique

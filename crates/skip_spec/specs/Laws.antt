@@ -1,5 +1,5 @@
 -- Laws of files and images.
-use Rattle.std.specs.Prelude.{◌≡◌, ◌≤◌, ℕ, List, take, Option, None, ◌<◌, slice_index}
+use Rattle.std.specs.Prelude.{◌≡◌, ◌↔◌, ◌≤◌, ℕ, List, take, Option, None, ◌<◌, slice_index}
 use Rattle.base_core.specs.OrderedMap.{Map, IsOrderedMap}
 use Rattle.base_core.specs.declared.flaw.Damage.{Damage}
 use Rattle.skip_spec.specs.FirstFlaw.{FirstFlaw}
@@ -46,9 +46,9 @@ CutsStayNear =
 abbrev pub AreBytes : List ℕ → Type 0
 AreBytes file = (i : ℕ) → slice_index file i < 256
 
--- a file in which verification finds no flaw opens
+-- verification finds no flaw exactly where the file opens to some map
 abbrev pub FlawlessOpens : Type 0
-FlawlessOpens = (file : List ℕ) → AreBytes file → FirstFlaw file None → (m : Map) × Opens file m
+FlawlessOpens = (file : List ℕ) → AreBytes file → FirstFlaw file None ↔ ((m : Map) × Opens file m)
 
 -- verification has one answer at most
 abbrev pub FirstFlawIsUnique : Type 0

@@ -1,10 +1,9 @@
 // Laws over the definitions.
-ghost use Rattle.skip_spec.specs.Laws.{MeansOneMap, OpensToOneMap, MeansOrderedMap, ImagesMeanAlike, ImagesKeepLevelOne, CutsStayNear, FirstFlawExists, FlawlessOpens, FirstFlawIsUnique};
+ghost use Rattle.skip_spec.specs.Laws.{MeansOneMap, MeansOrderedMap, OpensToOneMap, ImagesMeanAlike, ImagesKeepLevelOne, CutsStayNear, FirstFlawExists, FirstFlawIsUnique, FlawlessOpens};
 
-/// A file means one map at most, whose keys rise strictly, and opens to one at most.
-pub fn file_opens_to_one_map()
-    ensures means { MeansOneMap }
-    ensures opens { OpensToOneMap }
+/// A file means one map at most, and its keys rise strictly.
+pub fn file_means_one_map()
+    ensures unique { MeansOneMap }
     ensures ordered { MeansOrderedMap }
 {}
 
@@ -25,7 +24,8 @@ pub fn file_has_one_first_flaw()
     ensures exists { FirstFlawExists }
 {}
 
-/// A file in which verification finds no flaw opens.
-pub fn flawless_file_opens()
-    ensures { FlawlessOpens }
+/// A file has no flaw exactly where it opens to a map, and then to one alone.
+pub fn flawless_file_opens_once()
+    ensures opens { FlawlessOpens }
+    ensures once { OpensToOneMap }
 {}
