@@ -1,4 +1,5 @@
 mod AnAnswer
+mod Circular
 mod Cuts
 mod Flawless
 mod KindLemmas
