@@ -1,0 +1,13 @@
+mod AnAnswer
+mod Circular
+mod Cuts
+mod Flawless
+mod KindLemmas
+mod Kept
+mod Meanings
+mod OneAnswer
+mod OnePair
+mod Parts
+mod Places
+mod Sound
+mod Unique

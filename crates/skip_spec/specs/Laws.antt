@@ -1,0 +1,59 @@
+-- Laws of files and images.
+use Rattle.std.specs.Prelude.{◌≡◌, ◌↔◌, ◌≤◌, ℕ, List, take, Option, None, ◌<◌, slice_index}
+use Rattle.base_core.specs.OrderedMap.{Map, IsOrderedMap}
+use Rattle.base_core.specs.declared.flaw.Damage.{Damage}
+use Rattle.skip_spec.specs.FirstFlaw.{FirstFlaw}
+use Rattle.skip_spec.specs.Opens.{Contents, Reads, Means, OnlyLevelOne, Opens, HasDirty}
+use Rattle.skip_spec.specs.Near.{Near}
+
+-- ---- of files
+
+-- a file means at most one map
+abbrev pub MeansOneMap : Type 0
+MeansOneMap = (file : List ℕ) (m n : Map) → Means file m → Means file n → m ≡ n
+
+-- a file opens to at most one map
+abbrev pub OpensToOneMap : Type 0
+OpensToOneMap = (file : List ℕ) (m n : Map) → Opens file m → Opens file n → m ≡ n
+
+-- the keys of the map that a file means rise strictly
+abbrev pub MeansOrderedMap : Type 0
+MeansOrderedMap = (file : List ℕ) (m : Map) → Means file m → IsOrderedMap m
+
+-- ---- of images
+
+-- an image of an open transaction means the map of its base
+abbrev pub ImagesMeanAlike : Type 0
+ImagesMeanAlike = (base image : List ℕ) (m : Map) → Means base m → Near base image → Means image m
+
+-- where the base has no upper levels, its images have none
+abbrev pub ImagesKeepLevelOne : Type 0
+ImagesKeepLevelOne = (base image : List ℕ) → OnlyLevelOne base → Near base image → OnlyLevelOne image
+
+-- a dirty image that is cut, but not below the committed end, stays near its base and dirty
+abbrev pub CutsStayNear : Type 0
+CutsStayNear =
+    (base image : List ℕ) (says : Contents) (count : ℕ)
+    → Reads base says
+    → Near base image
+    → HasDirty image
+    → says.header.current_size ≤ count
+    → Near base (take count image) × HasDirty (take count image)
+
+-- ---- of verification
+
+-- each element is a byte
+abbrev pub AreBytes : List ℕ → Type 0
+AreBytes file = (i : ℕ) → slice_index file i < 256
+
+-- verification finds no flaw exactly where the file opens to some map
+abbrev pub FlawlessOpens : Type 0
+FlawlessOpens = (file : List ℕ) → AreBytes file → FirstFlaw file None ↔ ((m : Map) × Opens file m)
+
+-- verification has one answer at most
+abbrev pub FirstFlawIsUnique : Type 0
+FirstFlawIsUnique = (file : List ℕ) (a b : Option Damage) → FirstFlaw file a → FirstFlaw file b → a ≡ b
+
+-- each file has an answer
+abbrev pub FirstFlawExists : Type 0
+FirstFlawExists = (file : List ℕ) → (answer : Option Damage) × FirstFlaw file answer

@@ -1,0 +1,31 @@
+// Laws over the definitions.
+ghost use Rattle.skip_spec.specs.Laws.{MeansOneMap, MeansOrderedMap, OpensToOneMap, ImagesMeanAlike, ImagesKeepLevelOne, CutsStayNear, FirstFlawExists, FirstFlawIsUnique, FlawlessOpens};
+
+/// A file means one map at most, and its keys rise strictly.
+pub fn file_means_one_map()
+    ensures unique { MeansOneMap }
+    ensures ordered { MeansOrderedMap }
+{}
+
+/// An image that an unfinished transaction or recovery leaves means the committed map.
+pub fn near_images_open_alike()
+    ensures means { ImagesMeanAlike }
+    ensures levels { ImagesKeepLevelOne }
+{}
+
+/// An image of an unfinished transaction stays one where it is cut, but not below the committed end.
+pub fn cuts_stay_near()
+    ensures { CutsStayNear }
+{}
+
+/// Verification of a file has one answer: the first flaw and its place, or none.
+pub fn file_has_one_first_flaw()
+    ensures unique { FirstFlawIsUnique }
+    ensures exists { FirstFlawExists }
+{}
+
+/// A file has no flaw exactly where it opens to a map, and then to one alone.
+pub fn flawless_file_opens_once()
+    ensures opens { FlawlessOpens }
+    ensures once { OpensToOneMap }
+{}

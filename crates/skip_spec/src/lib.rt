@@ -1,0 +1,12 @@
+//! What a twoskip file means: which map it stands for, when it opens, and which images an unfinished
+//! transaction may leave of it. There are definitions and laws here, and no code.
+#![tactic(auto)]
+
+mod examples;
+mod laws;
+
+pub use examples::{circular_file_has_its_flaw, deleted_file_has_no_flaw, one_pair_file_opens};
+pub use laws::{
+    cuts_stay_near, file_has_one_first_flaw, file_means_one_map, flawless_file_opens_once,
+    near_images_open_alike,
+};
