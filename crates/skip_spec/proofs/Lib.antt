@@ -1,13 +1,13 @@
 mod AnAnswer
-mod Circular
 mod Cuts
+mod FileExamples
 mod Flawless
-mod KindLemmas
 mod Kept
+mod KindLemmas
 mod Meanings
+mod NoFlaw
 mod OneAnswer
 mod OnePair
 mod Parts
 mod Places
-mod Sound
 mod Unique
