@@ -1,13 +1,14 @@
-mod AnAnswer
-mod Cuts
+pub mod AnAnswer
+pub mod Cuts
 mod FileExamples
-mod Flawless
-mod Kept
-mod KindLemmas
-mod Meanings
-mod NoFlaw
-mod OneAnswer
+pub mod Flawless
+pub mod Kept
+pub mod KindLemmas
+pub mod Meanings
+pub mod NoFlaw
+pub mod OneAnswer
 mod OnePair
-mod Parts
-mod Places
-mod Unique
+pub mod Parts
+pub mod Places
+pub mod Splice
+pub mod Unique
