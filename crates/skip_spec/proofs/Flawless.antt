@@ -31,7 +31,7 @@ not_true : (t : Bool) → not t ≡ true → t ≡ false
 not_true false e = refl
 not_true true e = absurd cc
 
-and_parts : (p q : Bool) → (p && q) ≡ true → (p ≡ true) × (q ≡ true)
+pub and_parts : (p q : Bool) → (p && q) ≡ true → (p ≡ true) × (q ≡ true)
 and_parts true q e = (refl, e)
 and_parts false q e = absurd cc
 
@@ -102,6 +102,11 @@ rows_stand file from (s ∷ ss) to bytes inside r = (r.0, row_stands file from b
 rows_level : (file : List ℕ) (from : ℕ) (ss : List ℕ) (to : ℕ) → RightRows file from ss to → AllByRecursion (λ at. HasKind file at Put → (head_in file at).level ≡ 1) ss
 rows_level file from [] to r = tt
 rows_level file from (s ∷ ss) to r = (λ put. subst (λ (x : ℕ). HasKind file x Put → (head_in file x).level ≡ 1) (sym r.0) (row_level file from r.1) put, rows_level file (from + (head_in file from).size) ss to r.3)
+
+-- these live records, the latest first, before those that are known
+abbrev pub all_of : List Entry → List Entry → List Entry
+all_of [] rest = rest
+all_of (e ∷ passed) rest = all_of passed (e ∷ rest)
 
 -- ---- live records of a clean file
 
@@ -216,15 +221,10 @@ module _ (file starts : List ℕ) (clean : is_dirty file ≡ false) (inside : en
       let next = successor file (latest passed) in
       (all.0, chosen (eqb next 0) (end_flaw file passed) (live_flaw file passed next) (ne_eqb next 0 some) (λ (x : Option Damage). x ≡ None) all.1.0)
 
-  -- these live records before those that are known
-  abbrev onto : List Entry → List Entry → List Entry
-  onto [] rest = rest
-  onto (e ∷ passed) rest = onto passed (e ∷ rest)
-
   abbrev TidyAll : List Entry → Type 0
   TidyAll es = AllByRecursion (λ e. IsTidyHead file (end_of file) e.at) es
 
-  chain_of : (passed rest : List Entry) → RightLive file starts passed → Slots (latest passed) → Chain file (end_of file) starts (latest passed) (latest_key passed) rest → TidyAll rest → Chain file (end_of file) starts 64 [] (onto passed rest) × TidyAll (onto passed rest) × Slots 64
+  chain_of : (passed rest : List Entry) → RightLive file starts passed → Slots (latest passed) → Chain file (end_of file) starts (latest passed) (latest_key passed) rest → TidyAll rest → Chain file (end_of file) starts 64 [] (all_of passed rest) × TidyAll (all_of passed rest) × Slots 64
   chain_of [] rest r s c t = (c, t, s)
   chain_of (e ∷ passed) rest r s c t =
       let next = successor file (latest passed) in
@@ -244,7 +244,7 @@ module _ (file starts : List ℕ) (clean : is_dirty file ≡ false) (inside : en
         | inr le ↦ let last : suc n ≡ level = omega arith in subst (λ (k : ℕ). pointer_in file (latest_on k passed) (k + 1) ≡ at) last (eqb-true _ _ both.0)
       ]
 
-  links_of : (level : ℕ) → 1 ≤ level → (passed rest : List Entry) → RightLive file starts passed → Links file level (latest_on level passed) (on_level level rest) → Links file level 64 (on_level level (onto passed rest))
+  links_of : (level : ℕ) → 1 ≤ level → (passed rest : List Entry) → RightLive file starts passed → Links file level (latest_on level passed) (on_level level rest) → Links file level 64 (on_level level (all_of passed rest))
   links_of level low [] rest r l = l
   links_of level low (e ∷ passed) rest r l =
       let next = successor file (latest passed) in
@@ -262,9 +262,9 @@ module _ (file starts : List ℕ) (clean : is_dirty file ≡ false) (inside : en
           subst (λ (b : Bool). Links file level (latest_on level passed) (cond b (e ∷ on_level level rest) (on_level level rest))) (sym t)
           (subst (λ (b : Bool). Links file level (cond b e.at (latest_on level passed)) (on_level level rest)) t l)
 
-  length_onto : (passed rest : List Entry) → length (onto passed rest) ≡ length passed + length rest
-  length_onto [] rest = omega arith
-  length_onto (e ∷ passed) rest = omega (arith, length_onto passed (e ∷ rest))
+  length_all : (passed rest : List Entry) → length (all_of passed rest) ≡ length passed + length rest
+  length_all [] rest = omega arith
+  length_all (e ∷ passed) rest = omega (arith, length_all passed (e ∷ rest))
 
   -- the way to the end, and what is right there
   last : (passed : List Entry) → next_flaw file starts passed ≡ None → successor file (latest passed) ≡ 0 → (way_flaw file starts (latest passed) ≡ None) × (end_flaw file passed ≡ None)
@@ -288,7 +288,7 @@ no_header_flaw : (x : Option Flaw) → at_header_place x ≡ None → x ≡ None
 no_header_flaw None e = refl
 no_header_flaw (Some f) e = absurd (let h : Some (record { at = header_place f; check = f }) ≡ None = e in cc)
 
-record FrontIsRight (file : List ℕ) : Type 0 where
+pub record FrontIsRight (file : List ℕ) : Type 0 where
   header : header_flaw file ≡ None
   least : 336 ≤ end_of file
   aligned : end_of file % 8 ≡ 0
@@ -296,7 +296,7 @@ record FrontIsRight (file : List ℕ) : Type 0 where
   clean : is_dirty file ≡ false
   dummy : row_flaw file 64 ≡ None
 
-front_right : (file : List ℕ) → front_flaw file ≡ None → FrontIsRight file
+pub front_right : (file : List ℕ) → front_flaw file ≡ None → FrontIsRight file
 unfolding front_flaw
 front_right file e =
     let all = all_none (front_checks file) e in
@@ -321,7 +321,7 @@ dummy_head file clean e = let all = all_none (dummy_checks file) e in eqb-true _
 not_dirty : (file : List ℕ) → is_dirty file ≡ false → IsDirty (header_in file) → ⊥
 not_dirty file clean dirty = let t = eq-eqb _ _ dirty in cc
 
-opens : (file : List ℕ) → AreBytes file → FrontIsRight file → (starts : List ℕ) → RightRows file 336 starts (end_of file) → dummy_flaw file ≡ None → (passed : List Entry) → RightLive file starts passed → next_flaw file starts passed ≡ None → successor file (latest passed) ≡ 0 → (m : Map) × Opens file m
+pub opens : (file : List ℕ) → AreBytes file → FrontIsRight file → (starts : List ℕ) → RightRows file 336 starts (end_of file) → dummy_flaw file ≡ None → (passed : List Entry) → RightLive file starts passed → next_flaw file starts passed ≡ None → successor file (latest passed) ≡ 0 → Opens file (pairs (all_of passed []))
 opens file bytes front starts right dummy passed live next ends =
     let inside : end_of file ≤ length file = omega (arith, front.ends) in
     let clean = front.clean in
@@ -330,7 +330,7 @@ opens file bytes front starts right dummy passed live next ends =
     let final = last file starts clean inside rows passed next ends in
     let stop = subst (λ (n : ℕ). IsSuccessorUnder file (end_of file) starts (latest passed) n) ends (successor_is file starts clean inside rows (latest passed) final.0) in
     let built = chain_of file starts clean inside rows passed [] live (slots_of file starts clean inside rows (latest passed) final.0) stop tt in
-    let entries = onto file starts clean inside rows passed [] in
+    let entries = all_of passed [] in
     let says : Contents = record { header = header_in file; starts = starts; chain = entries } in
     let reads : Reads file says = record {
       header = header.1;
@@ -348,16 +348,14 @@ opens file bytes front starts right dummy passed live next ends =
       ends = sym front.ends;
       dummy = (built.2.0, built.2.1, dummy_head file clean dummy);
       heads = built.1;
-      count = omega (arith, end_count file starts clean inside rows passed final.1, length_onto file starts clean inside rows passed []);
+      count = omega (arith, end_count file starts clean inside rows passed final.1, length_all file starts clean inside rows passed []);
       levels = λ level low high. links_of file starts clean inside rows level low passed [] live (leads_to file starts clean inside rows passed 0 30 level (end_links file starts clean inside rows passed final.1) low high);
-    } in (
-      pairs entries,
-      record {
-        means = (says, reads, refl, inr tidy);
-        levels = (says, reads, rows_level file 336 starts (end_of file) right);
-        clean = (says, reads, not_dirty file clean);
-      },
-    )
+    } in
+    record {
+      means = (says, reads, refl, inr tidy);
+      levels = (says, reads, rows_level file 336 starts (end_of file) right);
+      clean = (says, reads, not_dirty file clean);
+    }
 
 pub flawless_opens : (file : List ℕ) → AreBytes file → FirstFlaw file None → (m : Map) × Opens file m
 flawless_opens file bytes (inl p) = absurd (p.0 refl)
@@ -370,7 +368,7 @@ flawless_opens file bytes (inr p) =
         | inl d ↦ absurd (d.0 refl)
         | inr d ↦ elim d.1.3 [
           | inl some ↦ absurd (some refl)
-          | inr ends ↦ opens file bytes front at_end.0 (subst (λ (to : ℕ). RightRows file 336 at_end.0 to) q.0 at_end.2) d.0 d.1.0 d.1.1 d.1.2 ends
+          | inr ends ↦ (_, opens file bytes front at_end.0 (subst (λ (to : ℕ). RightRows file 336 at_end.0 to) q.0 at_end.2) d.0 d.1.0 d.1.1 d.1.2 ends)
         ]
       ]
     ]

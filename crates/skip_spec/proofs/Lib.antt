@@ -1,13 +1,14 @@
-mod AnAnswer
-mod Circular
-mod Cuts
-mod Flawless
-mod KindLemmas
-mod Kept
-mod Meanings
-mod OneAnswer
+pub mod AnAnswer
+pub mod Cuts
+mod FileExamples
+pub mod Flawless
+pub mod Kept
+pub mod KindLemmas
+pub mod Meanings
+pub mod NoFlaw
+pub mod OneAnswer
 mod OnePair
-mod Parts
-mod Places
-mod Sound
-mod Unique
+pub mod Parts
+pub mod Places
+pub mod Splice
+pub mod Unique

@@ -1,5 +1,5 @@
 // Files that the definitions say something of.
-ghost use Rattle.std.specs.Prelude.{Some, None};
+ghost use Rattle.std.specs.Prelude.{[], Some};
 ghost use Rattle.skip_spec.specs.Examples.{circular_file, circular_flaw, deleted_file, one_pair_file, one_pair};
 ghost use Rattle.skip_spec.specs.FirstFlaw.{FirstFlaw};
 ghost use Rattle.skip_spec.specs.Opens.{Opens};
@@ -14,7 +14,7 @@ pub fn circular_file_has_its_flaw()
     ensures { FirstFlaw circular_file (Some circular_flaw) }
 {}
 
-/// Verification finds no flaw in a file of 448 bytes whose one pair was deleted.
-pub fn deleted_file_has_no_flaw()
-    ensures { FirstFlaw deleted_file None }
+/// A file of 448 bytes whose one pair was deleted opens to no pair.
+pub fn deleted_file_opens()
+    ensures { Opens deleted_file [] }
 {}

@@ -5,7 +5,7 @@
 mod examples;
 mod laws;
 
-pub use examples::{circular_file_has_its_flaw, deleted_file_has_no_flaw, one_pair_file_opens};
+pub use examples::{circular_file_has_its_flaw, deleted_file_opens, one_pair_file_opens};
 pub use laws::{
     cuts_stay_near, file_has_one_first_flaw, file_means_one_map, flawless_file_opens_once,
     near_images_open_alike,

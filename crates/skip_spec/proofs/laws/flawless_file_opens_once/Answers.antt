@@ -1,6 +1,6 @@
 use Rattle.skip_spec.proofs.Flawless.{flawless_opens}
 use Rattle.skip_spec.proofs.Meanings.{opens_one}
-use Rattle.skip_spec.proofs.Sound.{opens_flawless}
+use Rattle.skip_spec.proofs.NoFlaw.{opens_flawless}
 use Rattle.skip_spec.proofs.laws.flawless_file_opens_once.Goals as goal
 
 pub returns : goal.returns

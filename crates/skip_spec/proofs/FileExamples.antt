@@ -1,7 +1,12 @@
 -- The files with a deleted pair and with a circle, by computation.
-use Rattle.std.proofs.Common.{[], ◌∷◌, Some, None, refl, inl, inr, arith, lit<}
+use Rattle.std.proofs.Common.{◌≡◌, ℕ, zero, suc, ltb, true, List, [], ◌∷◌, Some, refl, inl, inr, arith, lit<}
+use Rattle.std.specs.List.{list_all}
+use Rattle.std.proofs.lemmas.Bool.{ltb-true}
 use Rattle.check_word.specs.CheckWord.{after_byte, after_bits, after_bit}
 use Rattle.skip_form.specs.Fields.{part, u16_in, u32_in, u64_in}
+use Rattle.skip_form.proofs.Parts.{AreBytes}
+use Rattle.skip_spec.specs.Opens.{Opens}
+use Rattle.skip_spec.proofs.Flawless.{and_parts, front_right, opens}
 use Rattle.skip_spec.specs.Chain.{Entry}
 use Rattle.skip_spec.specs.FirstFlaw.{FirstFlaw, row_flaw, front_flaw, dummy_flaw, delete_flaw, way_flaw, live_flaw, end_flaw, next_flaw, successor}
 use Rattle.skip_spec.specs.Examples.{deleted_file, circular_file, circular_flaw}
@@ -35,15 +40,16 @@ circular = inr (
   ),
 )
 
--- verification of the file with a deleted pair finds no flaw
-pub deleted : FirstFlaw deleted_file None
+-- each of these numbers is below 256
+are_bytes : (xs : List ℕ) → list_all (λ x. ltb x 256) xs ≡ true → AreBytes xs
+are_bytes [] e i = omega arith
+are_bytes (x ∷ xs) e zero = let b = and_parts (ltb x 256) (list_all (λ y. ltb y 256) xs) e in ltb-true x 256 b.0
+are_bytes (x ∷ xs) e (suc i) = let b = and_parts (ltb x 256) (list_all (λ y. ltb y 256) xs) e in are_bytes xs b.1 i
+
+-- the file with a deleted pair opens, as verification finds no live record and no flaw
+pub deleted : Opens deleted_file []
 unfolding row_flaw front_flaw dummy_flaw delete_flaw way_flaw live_flaw end_flaw next_flaw successor part u16_in u32_in u64_in after_byte after_bits after_bit
-deleted = inr (
-  refl,
-  (
-    336 ∷ 376 ∷ 400 ∷ 424 ∷ [],
-    448,
-    (refl, refl, lit< tt, (refl, refl, lit< tt, (refl, refl, lit< tt, (refl, refl, lit< tt, refl)))),
-    inr (refl, inr (refl, ([], tt, refl, inr refl))),
-  ),
-)
+deleted =
+    opens deleted_file (are_bytes deleted_file refl) (front_right deleted_file refl) (336 ∷ 376 ∷ 400 ∷ 424 ∷ [])
+    (refl, refl, lit< tt, (refl, refl, lit< tt, (refl, refl, lit< tt, (refl, refl, lit< tt, refl))))
+    refl [] tt refl refl
