@@ -12,7 +12,7 @@ use Rattle.skip_spec.proofs.Parts.{Agree, part-same}
 use Rattle.skip_spec.proofs.Places.{within, places, laid, head_is}
 use Rattle.skip_spec.proofs.Unique.{reads_same}
 
-take_same : (b c : List ℕ) (n : ℕ) → n ≤ length b → n ≤ length c → Agree b c 0 n → take n b ≡ take n c
+pub take_same : (b c : List ℕ) (n : ℕ) → n ≤ length b → n ≤ length c → Agree b c 0 n → take n b ≡ take n c
 unfolding part
 take_same b c n in_b in_c agree = part-same b c 0 n (omega arith) (omega arith) agree
 
@@ -43,13 +43,13 @@ module _ (base : List ℕ) (f : Contents) (r : Reads base f) where
       }
 
   -- a dirty file near the base is an image of it
-  dirty_image : (old : List ℕ) → Near base old → HasDirty old → IsImageOf base f old
+  pub dirty_image : (old : List ℕ) → Near base old → HasDirty old → IsImageOf base f old
   dirty_image old (inl e) d =
       let same = header_bytes-same d.0 f.header d.1 r.fields (sym d.2 ∙ ap (take 64) e ∙ r.header) in
       subst (λ (b : List ℕ). IsImageOf base f b) (sym e) (base_image (subst (λ (h : Header). IsDirty h) same d.3))
   dirty_image old (inr n) d = subst (λ (g : Contents). IsImageOf base g old) (reads_same base n.0 f n.1 r) n.2
 
-  image_near : (image : List ℕ) → IsImageOf base f image → Near base image × HasDirty image
+  pub image_near : (image : List ℕ) → IsImageOf base f image → Near base image × HasDirty image
   image_near image n = (inr (f, r, n), (with_dirty f.header, (reads_kept base image f r n).fields, n.header, omega arith))
 
 pub cut_near : (base image : List ℕ) (f : Contents) (count : ℕ) → Reads base f → Near base image → HasDirty image → f.header.current_size ≤ count → Near base (take count image) × HasDirty (take count image)

@@ -4,6 +4,7 @@ mod FileExamples
 pub mod Flawless
 pub mod Kept
 pub mod KindLemmas
+pub mod Landed
 pub mod Meanings
 pub mod NoFlaw
 pub mod OneAnswer

@@ -22,6 +22,14 @@ part-same b c at count in_b in_c agree =
     let k : i < count = omega (arith, lb) in
     get_or-part b at count i k ∙ agree (at + i) (omega arith) (omega arith) ∙ sym (get_or-part c at count i k))
 
+pub part-moved : (b c : List ℕ) (at from count : ℕ) → at + count ≤ length b → from + count ≤ length c → ((i : ℕ) → i < count → get_or b (at + i) 0 ≡ get_or c (from + i) 0) → part b at count ≡ part c from count
+part-moved b c at from count in_b in_c agree =
+    let lb = length-part b at count in_b in
+    let lc = length-part c from count in_c in
+    ext_get_or 0 (part b at count) (part c from count) (lb ∙ sym lc) (λ i lt.
+    let k : i < count = omega (arith, lb) in
+    get_or-part b at count i k ∙ agree i k ∙ sym (get_or-part c from count i k))
+
 -- a head depends on its first eight bytes
 pub head_in-same : (b c : List ℕ) (at : ℕ) → at + 8 ≤ length b → at + 8 ≤ length c → Agree b c at 8 → head_in b at ≡ head_in c at
 head_in-same b c at in_b in_c agree =

@@ -4,7 +4,8 @@ use Rattle.base_core.specs.OrderedMap.{Map, IsOrderedMap}
 use Rattle.base_core.specs.declared.flaw.Damage.{Damage}
 use Rattle.skip_spec.specs.FirstFlaw.{FirstFlaw}
 use Rattle.skip_spec.specs.Opens.{Contents, Reads, Means, OnlyLevelOne, Opens, HasDirty}
-use Rattle.skip_spec.specs.Near.{Near}
+use Rattle.skip_spec.specs.Near.{Near, IsPermittedWrite}
+use Rattle.skip_spec.specs.Landing.{Lands}
 
 -- ---- of files
 
@@ -29,6 +30,17 @@ ImagesMeanAlike = (base image : List ℕ) (m : Map) → Means base m → Near ba
 -- where the base has no upper levels, its images have none
 abbrev pub ImagesKeepLevelOne : Type 0
 ImagesKeepLevelOne = (base image : List ℕ) → OnlyLevelOne base → Near base image → OnlyLevelOne image
+
+-- where a permitted write lands on a dirty image, in whole or in part, it stays near its base and dirty
+abbrev pub LandingsStayNear : Type 0
+LandingsStayNear =
+    (base old image : List ℕ) (says : Contents) (at : ℕ) (bytes : List ℕ)
+    → Reads base says
+    → Near base old
+    → HasDirty old
+    → IsPermittedWrite base says at bytes
+    → Lands old at bytes image
+    → Near base image × HasDirty image
 
 -- a dirty image that is cut, but not below the committed end, stays near its base and dirty
 abbrev pub CutsStayNear : Type 0

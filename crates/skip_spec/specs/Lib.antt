@@ -1,6 +1,7 @@
 pub mod Chain
 pub mod Examples
 pub mod FirstFlaw
+pub mod Landing
 pub mod Laws
 pub mod Near
 pub mod Opens

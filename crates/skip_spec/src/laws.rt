@@ -1,5 +1,5 @@
 // Laws over the definitions.
-ghost use Rattle.skip_spec.specs.Laws.{MeansOneMap, MeansOrderedMap, OpensToOneMap, ImagesMeanAlike, ImagesKeepLevelOne, CutsStayNear, FirstFlawExists, FirstFlawIsUnique, FlawlessOpens};
+ghost use Rattle.skip_spec.specs.Laws.{MeansOneMap, MeansOrderedMap, OpensToOneMap, ImagesMeanAlike, ImagesKeepLevelOne, LandingsStayNear, CutsStayNear, FirstFlawExists, FirstFlawIsUnique, FlawlessOpens};
 
 /// A file means one map at most, and its keys rise strictly.
 pub fn file_means_one_map()
@@ -13,9 +13,11 @@ pub fn near_images_open_alike()
     ensures levels { ImagesKeepLevelOne }
 {}
 
-/// An image of an unfinished transaction stays one where it is cut, but not below the committed end.
-pub fn cuts_stay_near()
-    ensures { CutsStayNear }
+/// An image of an unfinished transaction stays one where a permitted write lands on it, each aligned line of
+/// 64 bytes whole or not at all, and where it is cut, but not below the committed end.
+pub fn permitted_writes_stay_near()
+    ensures landings { LandingsStayNear }
+    ensures cuts { CutsStayNear }
 {}
 
 /// Verification of a file has one answer: the first flaw and its place, or none.
