@@ -2,6 +2,7 @@
 use Rattle.std.proofs.Common.{◌≡◌, ℕ, ◌+◌, ◌%◌, ◌≤◌, List, [], ◌∷◌, map, refl, sym, subst, ◌∙◌, inl, inr, arith, ◌⊎◌}
 use Rattle.skip_form.specs.declared.head.Kind.TheVariants.{Dummy, Put}
 use Rattle.skip_form.specs.Flaws.{head_in}
+use Rattle.skip_form.specs.Spelling.{StandsAt}
 use Rattle.skip_spec.specs.Records.{HasKind}
 use Rattle.skip_spec.specs.Rows.{IsAmong, Rows}
 use Rattle.skip_spec.specs.Chain.{Entry, Chain}
@@ -62,17 +63,23 @@ aligned b at (s ∷ ss) end v l a (inr m) = aligned b (at + (head_in b at).size)
 abbrev pub places : Contents → List ℕ
 places f = 64 ∷ f.starts
 
+pub dummy_stands : (b : List ℕ) → StandsAt b 64 (head_in b 64) → HasKind b 64 Dummy
+dummy_stands b dummy = dummy.place.1 refl
+
+pub laid_dummy : (b starts : List ℕ) (end : ℕ) → StandsAt b 64 (head_in b 64) → Rows b 336 starts end → Laid b 64 (64 ∷ starts) end
+laid_dummy b starts end dummy rows =
+    let kind = dummy_stands b dummy in
+    let lengths = dummy_lengths (head_in b 64) dummy.head kind in
+    let e : 336 ≡ 64 + (head_in b 64).size = omega (arith, dummy_level (head_in b 64) dummy.head kind, lengths) in
+    (refl, subst (λ (at : ℕ). Laid b at starts end) e (laid-rows b 336 starts end rows))
+
 pub is_dummy : (b : List ℕ) (f : Contents) → Reads b f → HasKind b 64 Dummy
-is_dummy b f r = r.dummy.place.1 refl
+is_dummy b f r = dummy_stands b r.dummy
 
 pub laid : (b : List ℕ) (f : Contents) → Reads b f → Laid b 64 (places f) f.header.current_size
-laid b f r =
-    let kind = is_dummy b f r in
-    let lengths = dummy_lengths (head_in b 64) r.dummy.head kind in
-    let e : 336 ≡ 64 + (head_in b 64).size = omega (arith, dummy_level (head_in b 64) r.dummy.head kind, lengths) in
-    (refl, subst (λ (at : ℕ). Laid b at f.starts f.header.current_size) e (laid-rows b 336 f.starts f.header.current_size r.rows))
+laid b f r = laid_dummy b f.starts f.header.current_size r.dummy r.rows
 
-in_chain : (b : List ℕ) (bound : ℕ) (starts : List ℕ) (at : ℕ) (k : List ℕ) (es : List Entry) (v : ℕ) → Chain b bound starts at k es → IsAmong (map (λ e. e.at) es) v → IsAmong starts v × HasKind b v Put
+pub in_chain : (b : List ℕ) (bound : ℕ) (starts : List ℕ) (at : ℕ) (k : List ℕ) (es : List Entry) (v : ℕ) → Chain b bound starts at k es → IsAmong (map (λ e. e.at) es) v → IsAmong starts v × HasKind b v Put
 in_chain b bound starts at k [] v c m = absurd m
 in_chain b bound starts at k (e ∷ es) v c (inl is) = subst (λ (w : ℕ). IsAmong starts w × HasKind b w Put) is (c.1.start, c.1.kind)
 in_chain b bound starts at k (e ∷ es) v c (inr m) = in_chain b bound starts e.at e.key es v c.3 m

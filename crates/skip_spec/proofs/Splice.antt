@@ -13,10 +13,11 @@ use Rattle.skip_spec.specs.Records.{HasKind, TailCheckIsRight, key_in, head_size
 use Rattle.skip_spec.specs.Rows.{IsAmong, Rows}
 use Rattle.skip_spec.specs.Successor.{IsGreatestUnder, LeadsPastDelete, LeadsTo, IsSuccessorUnder}
 use Rattle.skip_spec.specs.Chain.{Entry, Chain, StandsAsEntry}
+use Rattle.skip_spec.specs.Change.{Changes, IsOutsideLinks, IsBelowFirst, heads_of, first_at, last_at, last_key}
 use Rattle.skip_spec.proofs.KindLemmas.{put_is_not_gone, gone_is_not_dummy, gone_level}
 use Rattle.skip_spec.proofs.Kept.{row_at}
 use Rattle.skip_spec.proofs.Parts.{part-same, head_in-same}
-use Rattle.skip_spec.proofs.Places.{Laid, within, apart}
+use Rattle.skip_spec.proofs.Places.{Laid, within, apart, laid_dummy, dummy_stands, in_chain}
 
 -- from the record at an offset, whose key is given, these live records lead to the one at another
 abbrev pub Linked : List ℕ → ℕ → List ℕ → ℕ → List ℕ → List Entry → ℕ → List ℕ → Type 0
@@ -59,10 +60,6 @@ chain_rises b bound starts at k (e ∷ es) c v (inr m) = let rest = chain_rises 
 
 -- ---- records that stay
 
--- the byte at i is outside of the record's pointers and head check
-abbrev pub Outside : List ℕ → ℕ → ℕ → Type 0
-Outside b h i = (i < h + 8) ⊎ (h + 20 + 8 * (head_in b h).level ≤ i)
-
 abbrev pub Includes : List ℕ → List ℕ → Type 0
 Includes starts more = (v : ℕ) → IsAmong starts v → IsAmong more v
 
@@ -73,19 +70,19 @@ pub record Holds (b c : List ℕ) (starts : List ℕ) (end : ℕ) (hs : List ℕ
   pub heads : (h : ℕ) → IsAmong hs h → IsAmong (64 ∷ starts) h × (HasKind b h Dummy ⊎ HasKind b h Put)
   pub long_b : end ≤ length b
   pub long_c : end ≤ length c
-  pub others : (i : ℕ) → 64 ≤ i → i < end → ((h : ℕ) → IsAmong hs h → Outside b h i) → get_or c i 0 ≡ get_or b i 0
+  pub others : (i : ℕ) → 64 ≤ i → i < end → ((h : ℕ) → IsAmong hs h → IsOutsideLinks b h i) → get_or c i 0 ≡ get_or b i 0
 
 module _ (b c : List ℕ) (starts more : List ℕ) (end : ℕ) (hs : List ℕ) (holds : Holds b c starts end hs) (grown : Includes starts more) where
-  byte_stays : (v i : ℕ) → IsAmong (64 ∷ starts) v → v ≤ i → i < v + (head_in b v).size → (IsAmong hs v → Outside b v i) → get_or c i 0 ≡ get_or b i 0
+  byte_stays : (v i : ℕ) → IsAmong (64 ∷ starts) v → v ≤ i → i < v + (head_in b v).size → (IsAmong hs v → IsOutsideLinks b v i) → get_or c i 0 ≡ get_or b i 0
   byte_stays v i m low high own =
       let w = within b 64 (64 ∷ starts) end v holds.laid m in
       holds.others i (omega (arith, w.low)) (omega (arith, w.high)) (λ h is.
       elim (apart b 64 (64 ∷ starts) end v h holds.laid m (holds.heads h is).0) [
-        | inl e ↦ subst (λ (x : ℕ). Outside b x i) e (own (subst (λ (x : ℕ). IsAmong hs x) (sym e) is))
+        | inl e ↦ subst (λ (x : ℕ). IsOutsideLinks b x i) e (own (subst (λ (x : ℕ). IsAmong hs x) (sym e) is))
         | inr far ↦ elim far [ inl after ↦ inl (omega arith) | inr before ↦ inr (omega arith) ]
       ])
 
-  pub agree : (v from count : ℕ) → IsAmong (64 ∷ starts) v → v ≤ from → from + count ≤ v + (head_in b v).size → ((i : ℕ) → from ≤ i → i < from + count → IsAmong hs v → Outside b v i) → part c from count ≡ part b from count
+  pub agree : (v from count : ℕ) → IsAmong (64 ∷ starts) v → v ≤ from → from + count ≤ v + (head_in b v).size → ((i : ℕ) → from ≤ i → i < from + count → IsAmong hs v → IsOutsideLinks b v i) → part c from count ≡ part b from count
   agree v from count m low high own =
       let w = within b 64 (64 ∷ starts) end v holds.laid m in
       part-same c b from count (omega (arith, w.low, w.high, holds.long_c)) (omega (arith, w.low, w.high, holds.long_b)) (λ i lo hi.
@@ -183,18 +180,9 @@ pub chain_append : (b : List ℕ) (bound : ℕ) (starts : List ℕ) (at : ℕ) (
 chain_append b bound starts at k [] to l back f ch = subst (λ (x : ℕ). Chain b bound starts x k back) (sym f.0) (subst (λ (j : List ℕ). Chain b bound starts to j back) (sym f.1) ch)
 chain_append b bound starts at k (e ∷ es) to l back f ch = (f.0, f.1, f.2, chain_append b bound starts e.at e.key es to l back f.3 ch)
 
--- the offset of the first record, or 0
-abbrev pub first_at : List Entry → ℕ
-first_at [] = 0
-first_at (e ∷ es) = e.at
-
-abbrev pub FirstAbove : List ℕ → List Entry → Type 0
-FirstAbove k [] = Unit {0}
-FirstAbove k (e ∷ es) = IsBelow k e.key
-
 -- What a store or a delete leaves: the records up to p stay, p leads to new ones, and the rest of the list stays.
 module _ (b c : List ℕ) (starts more : List ℕ) (end : ℕ) (hs : List ℕ) (holds : Holds b c starts end hs) (grown : Includes starts more) (bound bound' : ℕ) (p : ℕ) (l : List ℕ) (named : Named b p l) (pointers : (h v : ℕ) → IsAmong hs h → h ≢ p → IsGreatestUnder bound (pointer_in b h 0) (pointer_in b h 1) v → IsGreatestUnder bound' (pointer_in c h 0) (pointer_in c h 1) v) where
-  rest_stays : (at : ℕ) (k : List ℕ) (rest : List Entry) → ((v : ℕ) → IsAmong (map (λ e. e.at) rest) v → IsAmong hs v × (v ≢ p)) → (q : ℕ) (j : List ℕ) → Chain b bound starts q j rest → IsSuccessorUnder c bound' more at (first_at rest) → FirstAbove k rest → Chain c bound' more at k rest
+  rest_stays : (at : ℕ) (k : List ℕ) (rest : List Entry) → ((v : ℕ) → IsAmong (map (λ e. e.at) rest) v → IsAmong hs v × (v ≢ p)) → (q : ℕ) (j : List ℕ) → Chain b bound starts q j rest → IsSuccessorUnder c bound' more at (first_at rest) → IsBelowFirst k rest → Chain c bound' more at k rest
   rest_stays at k [] all q j ch next above = next
   rest_stays at k (r ∷ rs) all q j ch next above =
       let here = all r.at (inl refl) in
@@ -205,10 +193,81 @@ module _ (b c : List ℕ) (starts more : List ℕ) (end : ℕ) (hs : List ℕ) (
     front_stays = linked_stays b c starts more end hs holds grown bound bound' p pointers 64 [] front l is_64 all (inl (refl, refl)) named linked
 
     -- the record e was appended, p leads to it, and it leads to the rest
-    pub put_chain : (e : Entry) → StandsAsEntry c more e → IsBelow l e.key → IsSuccessorUnder c bound' more p e.at → IsSuccessorUnder c bound' more e.at (first_at rest) → FirstAbove e.key rest → Chain c bound' more 64 [] (front ++ e ∷ rest)
+    pub put_chain : (e : Entry) → StandsAsEntry c more e → IsBelow l e.key → IsSuccessorUnder c bound' more p e.at → IsSuccessorUnder c bound' more e.at (first_at rest) → IsBelowFirst e.key rest → Chain c bound' more 64 [] (front ++ e ∷ rest)
     put_chain e is below leads next above =
         chain_append c bound' more 64 [] front p l (e ∷ rest) front_stays (leads, is, below, rest_stays e.at e.key rest others q j chain next above)
 
     -- p leads to the rest
-    pub delete_chain : IsSuccessorUnder c bound' more p (first_at rest) → FirstAbove l rest → Chain c bound' more 64 [] (front ++ rest)
+    pub delete_chain : IsSuccessorUnder c bound' more p (first_at rest) → IsBelowFirst l rest → Chain c bound' more 64 [] (front ++ rest)
     delete_chain leads above = chain_append c bound' more 64 [] front p l rest front_stays (rest_stays p l rest others q j chain leads above)
+
+-- ---- parts of a list
+
+among_front : (es fs : List Entry) (v : ℕ) → IsAmong (map (λ e. e.at) es) v → IsAmong (map (λ e. e.at) (es ++ fs)) v
+among_front [] fs v m = absurd m
+among_front (e ∷ es) fs v (inl same) = inl same
+among_front (e ∷ es) fs v (inr m) = inr (among_front es fs v m)
+
+among_back : (es fs : List Entry) (v : ℕ) → IsAmong (map (λ e. e.at) fs) v → IsAmong (map (λ e. e.at) (es ++ fs)) v
+among_back [] fs v m = m
+among_back (e ∷ es) fs v m = inr (among_back es fs v m)
+
+-- a list in two parts: the first leads to its last record, and the second goes on from there
+chain_split : (b : List ℕ) (bound : ℕ) (starts : List ℕ) (at : ℕ) (k : List ℕ) (front back : List Entry) → Chain b bound starts at k (front ++ back) → Linked b bound starts at k front (last_at at front) (last_key k front) × Chain b bound starts (last_at at front) (last_key k front) back
+chain_split b bound starts at k [] back ch = ((refl, refl), ch)
+chain_split b bound starts at k (e ∷ es) back ch =
+    let next = chain_split b bound starts e.at e.key es back ch.3 in
+    ((ch.0, ch.1, ch.2, next.0), next.1)
+
+last_named : (b : List ℕ) (bound : ℕ) (starts : List ℕ) (end : ℕ) → Laid b 64 (64 ∷ starts) end → (at : ℕ) (k : List ℕ) (front back : List Entry) → Named b at k → Chain b bound starts at k (front ++ back) → Named b (last_at at front) (last_key k front)
+last_named b bound starts end laid at k [] back named ch = named
+last_named b bound starts end laid at k (e ∷ es) back named ch = last_named b bound starts end laid e.at e.key es back (inr (positive b starts end laid e.at ch.1.start, sym ch.1.key)) ch.3
+
+-- the key of the record before is below that of the first of the rest, also where records between are dropped
+below_first : (b : List ℕ) (bound : ℕ) (starts : List ℕ) (at : ℕ) (k : List ℕ) (dropped rest : List Entry) → Chain b bound starts at k (dropped ++ rest) → IsBelowFirst k rest
+below_first b bound starts at k [] [] ch = record {}
+below_first b bound starts at k [] (r ∷ rs) ch = ch.2
+below_first b bound starts at k (e ∷ es) [] ch = record {}
+below_first b bound starts at k (e ∷ es) (r ∷ rs) ch = below_trans k e.key r.key ch.2 (below_first b bound starts e.at e.key es (r ∷ rs) ch.3)
+
+module _ (old new : List ℕ) (bound bound' end : ℕ) (starts starts' : List ℕ) (front dropped rest : List Entry) (ch : Changes old new bound bound' end starts starts' front dropped rest) where
+  lies : Laid old 64 (64 ∷ starts) end
+  lies = laid_dummy old starts end ch.dummy ch.rows
+
+  stays : Holds old new starts end (heads_of (front ++ (dropped ++ rest)))
+  stays = record {
+    laid = lies;
+    rows = ch.rows;
+    heads = λ h is. elim is [
+      | inl e ↦ (inl e, inl (subst (λ (v : ℕ). HasKind old v Dummy) e (dummy_stands old ch.dummy)))
+      | inr m ↦ let c = in_chain old bound starts 64 [] (front ++ (dropped ++ rest)) h ch.chain m in (inr c.0, inr c.1)
+    ];
+    long_b = ch.old_long;
+    long_c = ch.new_long;
+    others = ch.others;
+  }
+
+  named : Named old (last_at 64 front) (last_key [] front)
+  named = last_named old bound starts end lies 64 [] front (dropped ++ rest) (inl (refl, refl)) ch.chain
+
+  parts : Linked old bound starts 64 [] front (last_at 64 front) (last_key [] front) × Chain old bound starts (last_at 64 front) (last_key [] front) (dropped ++ rest)
+  parts = chain_split old bound starts 64 [] front (dropped ++ rest) ch.chain
+
+  back : Linked old bound starts (last_at 64 front) (last_key [] front) dropped (last_at (last_at 64 front) dropped) (last_key (last_key [] front) dropped) × Chain old bound starts (last_at (last_at 64 front) dropped) (last_key (last_key [] front) dropped) rest
+  back = chain_split old bound starts (last_at 64 front) (last_key [] front) dropped rest parts.1
+
+  all_front : (v : ℕ) → IsAmong (map (λ e. e.at) front) v → IsAmong (heads_of (front ++ (dropped ++ rest))) v
+  all_front v m = inr (among_front front (dropped ++ rest) v m)
+
+  all_rest : (v : ℕ) → IsAmong (map (λ e. e.at) rest) v → IsAmong (heads_of (front ++ (dropped ++ rest))) v × (v ≢ last_at 64 front)
+  all_rest v m =
+      let after = among_back dropped rest v m in
+      (inr (among_back front (dropped ++ rest) v after), later old new starts starts' end (heads_of (front ++ (dropped ++ rest))) stays ch.starts_stay bound bound' (last_at 64 front) ch.pointers (last_key [] front) (dropped ++ rest) named parts.1 v after)
+
+  pub put_gives : (e : Entry) → StandsAsEntry new starts' e → IsBelow (last_key [] front) e.key → IsBelowFirst e.key rest → IsSuccessorUnder new bound' starts' (last_at 64 front) e.at → IsSuccessorUnder new bound' starts' e.at (first_at rest) → Chain new bound' starts' 64 [] (front ++ e ∷ rest)
+  put_gives e is below above leads next =
+      put_chain old new starts starts' end (heads_of (front ++ (dropped ++ rest))) stays ch.starts_stay bound bound' (last_at 64 front) (last_key [] front) named ch.pointers front all_front (inl refl) parts.0 rest all_rest (last_at (last_at 64 front) dropped) (last_key (last_key [] front) dropped) back.1 e is below leads next above
+
+  pub delete_gives : IsSuccessorUnder new bound' starts' (last_at 64 front) (first_at rest) → Chain new bound' starts' 64 [] (front ++ rest)
+  delete_gives leads =
+      delete_chain old new starts starts' end (heads_of (front ++ (dropped ++ rest))) stays ch.starts_stay bound bound' (last_at 64 front) (last_key [] front) named ch.pointers front all_front (inl refl) parts.0 rest all_rest (last_at (last_at 64 front) dropped) (last_key (last_key [] front) dropped) back.1 leads (below_first old bound starts (last_at 64 front) (last_key [] front) dropped rest parts.1)

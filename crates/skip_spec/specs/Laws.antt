@@ -1,11 +1,14 @@
 -- Laws of files and images.
-use Rattle.std.specs.Prelude.{◌≡◌, ◌↔◌, ◌≤◌, ℕ, List, take, Option, None, ◌<◌, slice_index}
-use Rattle.base_core.specs.OrderedMap.{Map, IsOrderedMap}
+use Rattle.std.specs.Prelude.{◌≡◌, ◌↔◌, ◌≤◌, ℕ, List, [], ◌∷◌, ◌++◌, take, Option, None, ◌<◌, slice_index}
+use Rattle.base_core.specs.OrderedMap.{Map, IsOrderedMap, IsBelow}
 use Rattle.base_core.specs.declared.flaw.Damage.{Damage}
 use Rattle.skip_spec.specs.FirstFlaw.{FirstFlaw}
 use Rattle.skip_spec.specs.Opens.{Contents, Reads, Means, OnlyLevelOne, Opens, HasDirty}
 use Rattle.skip_spec.specs.Near.{Near, IsPermittedWrite}
 use Rattle.skip_spec.specs.Landing.{Lands}
+use Rattle.skip_spec.specs.Successor.{IsSuccessorUnder}
+use Rattle.skip_spec.specs.Chain.{Entry, Chain, StandsAsEntry}
+use Rattle.skip_spec.specs.Change.{Changes, IsBelowFirst, first_at, last_at, last_key}
 
 -- ---- of files
 
@@ -51,6 +54,29 @@ CutsStayNear =
     → HasDirty image
     → says.header.current_size ≤ count
     → Near base (take count image) × HasDirty (take count image)
+
+-- ---- of changes
+
+-- Where the last of the front leads to a record that was appended, and that leads to the rest, the list
+-- is the front, the record and the rest. A record of the same key may be dropped.
+abbrev pub PutGivesChain : Type 0
+PutGivesChain =
+    (old new : List ℕ) (bound bound' end : ℕ) (starts starts' : List ℕ) (front dropped rest : List Entry) (e : Entry)
+    → Changes old new bound bound' end starts starts' front dropped rest
+    → StandsAsEntry new starts' e
+    → IsBelow (last_key [] front) e.key
+    → IsBelowFirst e.key rest
+    → IsSuccessorUnder new bound' starts' (last_at 64 front) e.at
+    → IsSuccessorUnder new bound' starts' e.at (first_at rest)
+    → Chain new bound' starts' 64 [] (front ++ e ∷ rest)
+
+-- where the last of the front leads to the rest, the list is the front and the rest
+abbrev pub DeleteGivesChain : Type 0
+DeleteGivesChain =
+    (old new : List ℕ) (bound bound' end : ℕ) (starts starts' : List ℕ) (front dropped rest : List Entry)
+    → Changes old new bound bound' end starts starts' front dropped rest
+    → IsSuccessorUnder new bound' starts' (last_at 64 front) (first_at rest)
+    → Chain new bound' starts' 64 [] (front ++ rest)
 
 -- ---- of verification
 

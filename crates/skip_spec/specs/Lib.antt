@@ -1,4 +1,5 @@
 pub mod Chain
+pub mod Change
 pub mod Examples
 pub mod FirstFlaw
 pub mod Landing

@@ -1,5 +1,5 @@
 // Laws over the definitions.
-ghost use Rattle.skip_spec.specs.Laws.{MeansOneMap, MeansOrderedMap, OpensToOneMap, ImagesMeanAlike, ImagesKeepLevelOne, LandingsStayNear, CutsStayNear, FirstFlawExists, FirstFlawIsUnique, FlawlessOpens};
+ghost use Rattle.skip_spec.specs.Laws.{MeansOneMap, MeansOrderedMap, OpensToOneMap, ImagesMeanAlike, ImagesKeepLevelOne, LandingsStayNear, CutsStayNear, PutGivesChain, DeleteGivesChain, FirstFlawExists, FirstFlawIsUnique, FlawlessOpens};
 
 /// A file means one map at most, and its keys rise strictly.
 pub fn file_means_one_map()
@@ -18,6 +18,13 @@ pub fn near_images_open_alike()
 pub fn permitted_writes_stay_near()
     ensures landings { LandingsStayNear }
     ensures cuts { CutsStayNear }
+{}
+
+/// The list after a put is the records before the key's place, the new one and those after it; after a delete
+/// it is the records before the deleted one and those after it. So it is for all levels.
+pub fn changes_give_the_list()
+    ensures put { PutGivesChain }
+    ensures delete { DeleteGivesChain }
 {}
 
 /// Verification of a file has one answer: the first flaw and its place, or none.

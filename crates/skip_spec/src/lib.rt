@@ -7,6 +7,6 @@ mod laws;
 
 pub use examples::{circular_file_has_its_flaw, deleted_file_opens, one_pair_file_opens};
 pub use laws::{
-    file_has_one_first_flaw, file_means_one_map, flawless_file_opens_once, near_images_open_alike,
-    permitted_writes_stay_near,
+    changes_give_the_list, file_has_one_first_flaw, file_means_one_map, flawless_file_opens_once,
+    near_images_open_alike, permitted_writes_stay_near,
 };
