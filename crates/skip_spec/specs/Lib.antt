@@ -8,4 +8,5 @@ pub mod Near
 pub mod Opens
 pub mod Records
 pub mod Rows
+pub mod SearchBound
 pub mod Successor

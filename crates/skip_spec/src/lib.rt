@@ -5,7 +5,10 @@
 mod examples;
 mod laws;
 
-pub use examples::{circular_file_has_its_flaw, deleted_file_opens, one_pair_file_opens};
+pub use examples::{
+    circular_file_has_its_flaw, deleted_file_opens, one_pair_file_opens,
+    second_of_two_is_found_in_33,
+};
 pub use laws::{
     changes_give_the_list, file_has_one_first_flaw, file_means_one_map, flawless_file_opens_once,
     near_images_open_alike, permitted_writes_stay_near,
