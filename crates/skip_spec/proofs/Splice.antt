@@ -3,7 +3,7 @@ use Rattle.std.proofs.Common.{◌≡◌, ◌≢◌, ℕ, ◌+◌, ◌-◌, ◌*�
 use Rattle.std.specs.Ordering.{nat_cmp, ordering_reverse}
 use Rattle.std.specs.Cmp.Lexicographic.{slice_cmp, nat_list_cmp_total}
 use Rattle.std.specs.declared.cmp.Ordering.TheVariants.{Less}
-use Rattle.base_core.specs.OrderedMap.{IsBelow}
+use Rattle.base_core.specs.OrderedMap.{IsBelow, BeginsAbove}
 use Rattle.check_word.specs.CheckWord.{check_word}
 use Rattle.skip_form.specs.declared.head.Head.{Head}
 use Rattle.skip_form.specs.declared.head.Kind.TheVariants.{Dummy, Put, Gone}
@@ -12,8 +12,8 @@ use Rattle.skip_form.specs.Flaws.{head_in}
 use Rattle.skip_spec.specs.Records.{HasKind, TailCheckIsRight, key_in, head_size_of, body_size_of}
 use Rattle.skip_spec.specs.Rows.{IsAmong, Rows}
 use Rattle.skip_spec.specs.Successor.{IsGreatestUnder, LeadsPastDelete, LeadsTo, IsSuccessorUnder}
-use Rattle.skip_spec.specs.Chain.{Entry, Chain, StandsAsEntry}
-use Rattle.skip_spec.specs.Change.{Changes, IsOutsideLinks, IsBelowFirst, heads_of, first_at, last_at, last_key}
+use Rattle.skip_spec.specs.Chain.{Entry, Chain, StandsAsEntry, pairs}
+use Rattle.skip_spec.specs.Change.{Changes, IsOutsideLinks, heads_of, first_at, last_at, last_key}
 use Rattle.skip_spec.proofs.KindLemmas.{put_is_not_gone, gone_is_not_dummy, gone_level}
 use Rattle.skip_spec.proofs.Kept.{row_at}
 use Rattle.skip_spec.proofs.Parts.{part-same, head_in-same}
@@ -182,7 +182,7 @@ chain_append b bound starts at k (e ∷ es) to l back f ch = (f.0, f.1, f.2, cha
 
 -- What a store or a delete leaves: the records up to p stay, p leads to new ones, and the rest of the list stays.
 module _ (b c : List ℕ) (starts more : List ℕ) (end : ℕ) (hs : List ℕ) (holds : Holds b c starts end hs) (grown : Includes starts more) (bound bound' : ℕ) (p : ℕ) (l : List ℕ) (named : Named b p l) (pointers : (h v : ℕ) → IsAmong hs h → h ≢ p → IsGreatestUnder bound (pointer_in b h 0) (pointer_in b h 1) v → IsGreatestUnder bound' (pointer_in c h 0) (pointer_in c h 1) v) where
-  rest_stays : (at : ℕ) (k : List ℕ) (rest : List Entry) → ((v : ℕ) → IsAmong (map (λ e. e.at) rest) v → IsAmong hs v × (v ≢ p)) → (q : ℕ) (j : List ℕ) → Chain b bound starts q j rest → IsSuccessorUnder c bound' more at (first_at rest) → IsBelowFirst k rest → Chain c bound' more at k rest
+  rest_stays : (at : ℕ) (k : List ℕ) (rest : List Entry) → ((v : ℕ) → IsAmong (map (λ e. e.at) rest) v → IsAmong hs v × (v ≢ p)) → (q : ℕ) (j : List ℕ) → Chain b bound starts q j rest → IsSuccessorUnder c bound' more at (first_at rest) → BeginsAbove k (pairs rest) → Chain c bound' more at k rest
   rest_stays at k [] all q j ch next above = next
   rest_stays at k (r ∷ rs) all q j ch next above =
       let here = all r.at (inl refl) in
@@ -193,12 +193,12 @@ module _ (b c : List ℕ) (starts more : List ℕ) (end : ℕ) (hs : List ℕ) (
     front_stays = linked_stays b c starts more end hs holds grown bound bound' p pointers 64 [] front l is_64 all (inl (refl, refl)) named linked
 
     -- the record e was appended, p leads to it, and it leads to the rest
-    pub put_chain : (e : Entry) → StandsAsEntry c more e → IsBelow l e.key → IsSuccessorUnder c bound' more p e.at → IsSuccessorUnder c bound' more e.at (first_at rest) → IsBelowFirst e.key rest → Chain c bound' more 64 [] (front ++ e ∷ rest)
+    pub put_chain : (e : Entry) → StandsAsEntry c more e → IsBelow l e.key → IsSuccessorUnder c bound' more p e.at → IsSuccessorUnder c bound' more e.at (first_at rest) → BeginsAbove e.key (pairs rest) → Chain c bound' more 64 [] (front ++ e ∷ rest)
     put_chain e is below leads next above =
         chain_append c bound' more 64 [] front p l (e ∷ rest) front_stays (leads, is, below, rest_stays e.at e.key rest others q j chain next above)
 
     -- p leads to the rest
-    pub delete_chain : IsSuccessorUnder c bound' more p (first_at rest) → IsBelowFirst l rest → Chain c bound' more 64 [] (front ++ rest)
+    pub delete_chain : IsSuccessorUnder c bound' more p (first_at rest) → BeginsAbove l (pairs rest) → Chain c bound' more 64 [] (front ++ rest)
     delete_chain leads above = chain_append c bound' more 64 [] front p l rest front_stays (rest_stays p l rest others q j chain leads above)
 
 -- ---- parts of a list
@@ -224,7 +224,7 @@ last_named b bound starts end laid at k [] back named ch = named
 last_named b bound starts end laid at k (e ∷ es) back named ch = last_named b bound starts end laid e.at e.key es back (inr (positive b starts end laid e.at ch.1.start, sym ch.1.key)) ch.3
 
 -- the key of the record before is below that of the first of the rest, also where records between are dropped
-below_first : (b : List ℕ) (bound : ℕ) (starts : List ℕ) (at : ℕ) (k : List ℕ) (dropped rest : List Entry) → Chain b bound starts at k (dropped ++ rest) → IsBelowFirst k rest
+below_first : (b : List ℕ) (bound : ℕ) (starts : List ℕ) (at : ℕ) (k : List ℕ) (dropped rest : List Entry) → Chain b bound starts at k (dropped ++ rest) → BeginsAbove k (pairs rest)
 below_first b bound starts at k [] [] ch = record {}
 below_first b bound starts at k [] (r ∷ rs) ch = ch.2
 below_first b bound starts at k (e ∷ es) [] ch = record {}
@@ -264,7 +264,7 @@ module _ (old new : List ℕ) (bound bound' end : ℕ) (starts starts' : List �
       let after = among_back dropped rest v m in
       (inr (among_back front (dropped ++ rest) v after), later old new starts starts' end (heads_of (front ++ (dropped ++ rest))) stays ch.starts_stay bound bound' (last_at 64 front) ch.pointers (last_key [] front) (dropped ++ rest) named parts.1 v after)
 
-  pub put_gives : (e : Entry) → StandsAsEntry new starts' e → IsBelow (last_key [] front) e.key → IsBelowFirst e.key rest → IsSuccessorUnder new bound' starts' (last_at 64 front) e.at → IsSuccessorUnder new bound' starts' e.at (first_at rest) → Chain new bound' starts' 64 [] (front ++ e ∷ rest)
+  pub put_gives : (e : Entry) → StandsAsEntry new starts' e → IsBelow (last_key [] front) e.key → BeginsAbove e.key (pairs rest) → IsSuccessorUnder new bound' starts' (last_at 64 front) e.at → IsSuccessorUnder new bound' starts' e.at (first_at rest) → Chain new bound' starts' 64 [] (front ++ e ∷ rest)
   put_gives e is below above leads next =
       put_chain old new starts starts' end (heads_of (front ++ (dropped ++ rest))) stays ch.starts_stay bound bound' (last_at 64 front) (last_key [] front) named ch.pointers front all_front (inl refl) parts.0 rest all_rest (last_at (last_at 64 front) dropped) (last_key (last_key [] front) dropped) back.1 e is below leads next above
 

@@ -1,7 +1,6 @@
 -- What a put and a delete do to the list of live records: in the new file some heads lead on elsewhere,
 -- and records were appended.
 use Rattle.std.specs.Prelude.{◌≡◌, ◌≢◌, ℕ, ◌+◌, ◌-◌, ◌<◌, ◌≤◌, List, [], ◌∷◌, ◌++◌, length, map, slice_index, ◌⊎◌}
-use Rattle.base_core.specs.OrderedMap.{IsBelow}
 use Rattle.skip_form.specs.Flaws.{head_in}
 use Rattle.skip_form.specs.Spelling.{StandsAt}
 use Rattle.skip_spec.specs.Records.{head_size_of}
@@ -27,11 +26,6 @@ last_key key (e ∷ es) = last_key e.key es
 abbrev pub first_at : List Entry → ℕ
 first_at [] = 0
 first_at (e ∷ es) = e.at
-
--- the key is below that of the first of these records, if there is one
-abbrev pub IsBelowFirst : List ℕ → List Entry → Type 0
-IsBelowFirst key [] = Unit {0}
-IsBelowFirst key (e ∷ es) = IsBelow key e.key
 
 -- the byte at i is of no pointer of the record at an offset, and not of its head check
 abbrev pub IsOutsideLinks : List ℕ → ℕ → ℕ → Type 0

@@ -1,14 +1,14 @@
 -- Laws of files and images.
 use Rattle.std.specs.Prelude.{◌≡◌, ◌↔◌, ◌≤◌, ℕ, List, [], ◌∷◌, ◌++◌, take, Option, None, ◌<◌, slice_index}
-use Rattle.base_core.specs.OrderedMap.{Map, IsOrderedMap, IsBelow}
+use Rattle.base_core.specs.OrderedMap.{Map, IsOrderedMap, IsBelow, BeginsAbove}
 use Rattle.base_core.specs.declared.flaw.Damage.{Damage}
 use Rattle.skip_spec.specs.FirstFlaw.{FirstFlaw}
 use Rattle.skip_spec.specs.Opens.{Contents, Reads, Means, OnlyLevelOne, Opens, HasDirty}
 use Rattle.skip_spec.specs.Near.{Near, IsPermittedWrite}
 use Rattle.skip_spec.specs.Landing.{Lands}
 use Rattle.skip_spec.specs.Successor.{IsSuccessorUnder}
-use Rattle.skip_spec.specs.Chain.{Entry, Chain, StandsAsEntry}
-use Rattle.skip_spec.specs.Change.{Changes, IsBelowFirst, first_at, last_at, last_key}
+use Rattle.skip_spec.specs.Chain.{Entry, Chain, StandsAsEntry, pairs}
+use Rattle.skip_spec.specs.Change.{Changes, first_at, last_at, last_key}
 
 -- ---- of files
 
@@ -65,7 +65,7 @@ PutGivesChain =
     → Changes old new bound bound' end starts starts' front dropped rest
     → StandsAsEntry new starts' e
     → IsBelow (last_key [] front) e.key
-    → IsBelowFirst e.key rest
+    → BeginsAbove e.key (pairs rest)
     → IsSuccessorUnder new bound' starts' (last_at 64 front) e.at
     → IsSuccessorUnder new bound' starts' e.at (first_at rest)
     → Chain new bound' starts' 64 [] (front ++ e ∷ rest)
