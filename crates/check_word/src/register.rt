@@ -23,30 +23,29 @@ fn after_byte(register: u32, byte: u8) -> u32
     (register >> 8) ^ look_up(0, (register & 0xff) as u8 ^ byte)
 }
 
-/// The register after sixteen bytes. Each byte moves it on its own, by the steps that follow it, and
-/// what the register holds goes in with the first four. These come last, since they wait for the
-/// block before.
+/// The register after sixteen bytes, which are loaded as one word. Each byte moves it on its own, by the
+/// steps that follow it, and what the register holds goes in with the first four. These come last,
+/// since they wait for the block before.
 fn after_block(register: u32, block: &[u8; BLOCK]) -> u32
     ensures { result ≡ after_bytes register block.now }
 {
-    let word = u32::from_le_bytes([block[0], block[1], block[2], block[3]]);
-    let [first, second, third, fourth] = (register ^ word).to_le_bytes();
-    let later = look_up(11, block[4])
-        ^ look_up(10, block[5])
-        ^ look_up(9, block[6])
-        ^ look_up(8, block[7])
-        ^ look_up(7, block[8])
-        ^ look_up(6, block[9])
-        ^ look_up(5, block[10])
-        ^ look_up(4, block[11])
-        ^ look_up(3, block[12])
-        ^ look_up(2, block[13])
-        ^ look_up(1, block[14])
-        ^ look_up(0, block[15]);
-    let earlier = look_up(15, first)
-        ^ look_up(14, second)
-        ^ look_up(13, third)
-        ^ look_up(12, fourth);
+    let mixed = (u128::from(register) ^ u128::from_le_bytes(*block)).to_le_bytes();
+    let later = look_up(11, mixed[4])
+        ^ look_up(10, mixed[5])
+        ^ look_up(9, mixed[6])
+        ^ look_up(8, mixed[7])
+        ^ look_up(7, mixed[8])
+        ^ look_up(6, mixed[9])
+        ^ look_up(5, mixed[10])
+        ^ look_up(4, mixed[11])
+        ^ look_up(3, mixed[12])
+        ^ look_up(2, mixed[13])
+        ^ look_up(1, mixed[14])
+        ^ look_up(0, mixed[15]);
+    let earlier = look_up(15, mixed[0])
+        ^ look_up(14, mixed[1])
+        ^ look_up(13, mixed[2])
+        ^ look_up(12, mixed[3]);
     later ^ earlier
 }
 
