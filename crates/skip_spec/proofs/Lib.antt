@@ -1,4 +1,5 @@
 pub mod AnAnswer
+pub mod Checks
 pub mod Cuts
 mod FileExamples
 pub mod Flawless
@@ -13,3 +14,5 @@ pub mod Parts
 pub mod Places
 pub mod Splice
 pub mod Unique
+pub mod Walk
+pub mod Ways

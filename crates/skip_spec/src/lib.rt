@@ -3,7 +3,11 @@
 #![tactic(auto)]
 
 mod examples;
+mod front;
 mod laws;
+mod starts;
+mod way;
+mod words;
 
 pub use examples::{circular_file_has_its_flaw, deleted_file_opens, one_pair_file_opens};
 pub use laws::{
