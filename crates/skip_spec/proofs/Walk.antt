@@ -1,15 +1,12 @@
 -- The walk over the rows to an offset.
-use Rattle.std.proofs.Common.{◌≡◌, ◌≢◌, ℕ, ◌+◌, ◌≤◌, ◌<◌, Bool, true, false, cond, eqb, List, [], ◌∷◌, length, Option, Some, None, refl, sym, ap, subst, ◌∙◌, inl, inr, arith, ◌⊎◌}
+use Rattle.std.proofs.Common.{◌≡◌, ℕ, ◌+◌, ◌<◌, Bool, true, false, eqb, List, [], ◌∷◌, length, Some, None, refl, ◌∙◌, arith}
 use Rattle.std.specs.Prelude.{◌||◌}
-use Rattle.std.proofs.lemmas.Bool.{ne_eqb, eq-eqb, cases_eq}
+use Rattle.std.proofs.lemmas.Bool.{ne_eqb, eq-eqb}
 use Rattle.base_core.specs.declared.flaw.Flaw.{Flaw}
-use Rattle.base_core.specs.declared.flaw.Flaw.TheVariants.{Short}
-use Rattle.base_core.specs.declared.flaw.Damage.{Damage}
 use Rattle.skip_form.specs.Flaws.{head_flaw, head_in}
 use Rattle.skip_form.proofs.HeadLemmas.{head_inside}
-use Rattle.skip_spec.specs.Rows.{IsAmong}
-use Rattle.skip_spec.specs.FirstFlaw.{end_of, is_among, row_flaw, RightRows}
-use Rattle.skip_spec.proofs.Checks.{damage, head_of_row}
+use Rattle.skip_spec.specs.FirstFlaw.{end_of, is_among, RightRows}
+use Rattle.skip_spec.proofs.Checks.{head_of_row}
 
 -- what is left of the rows has the offset where all have it
 abbrev pub Left : List ℕ → ℕ → ℕ → Type 0

@@ -1,8 +1,7 @@
 -- What is wrong on the way to the next live record, by the answers of its tests.
-use Rattle.std.proofs.Common.{◌≡◌, ◌≢◌, ℕ, ◌+◌, ◌≤◌, ◌<◌, Bool, true, false, cond, eqb, List, [], ◌∷◌, length, Option, Some, None, refl, sym, ap, subst, ◌∙◌, inl, inr, arith, ◌⊎◌}
+use Rattle.std.proofs.Common.{◌≡◌, ◌≢◌, ℕ, Bool, true, false, cond, eqb, List, [], ◌∷◌, Option, Some, None, refl, sym, ◌∙◌}
 use Rattle.std.specs.Prelude.{◌||◌, not}
 use Rattle.std.proofs.lemmas.Bool.{ne_eqb}
-use Rattle.base_core.specs.declared.flaw.Flaw.{Flaw}
 use Rattle.base_core.specs.declared.flaw.Flaw.TheVariants.{Check, Tail, Place, Kind, Slot}
 use Rattle.base_core.specs.declared.flaw.Damage.{Damage}
 use Rattle.skip_form.specs.declared.head.Kind.TheVariants.{Put, Gone, Commit}

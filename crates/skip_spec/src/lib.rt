@@ -1,11 +1,14 @@
 //! What a twoskip file means: which map it stands for, when it opens, and which images an unfinished
-//! transaction may leave of it. There are definitions and laws here, and no code.
+//! transaction may leave of it. There are definitions and laws here, and one plain program, which
+//! finds the first flaw of a file.
 #![tactic(auto)]
 
 mod examples;
 mod front;
 mod laws;
+mod live;
 mod starts;
+mod verify;
 mod way;
 mod words;
 
@@ -14,3 +17,4 @@ pub use laws::{
     file_has_one_first_flaw, file_means_one_map, flawless_file_opens_once, near_images_open_alike,
     permitted_writes_stay_near,
 };
+pub use verify::first_flaw;

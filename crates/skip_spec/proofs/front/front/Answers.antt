@@ -1,4 +1,4 @@
-use Rattle.std.proofs.Common.{◌≡◌, ℕ, Option, Some, sym, ap, ◌∙◌}
+use Rattle.std.proofs.Common.{ℕ, Some, sym, ap, ◌∙◌}
 use Rattle.skip_spec.proofs.Checks.{damage, front_of_flaw}
 use Rattle.skip_spec.proofs.front.front.Goals as goal
 

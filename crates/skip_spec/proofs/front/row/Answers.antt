@@ -1,4 +1,4 @@
-use Rattle.std.proofs.Common.{◌≡◌, Bool, true, false, Some, None, cond, sym, ap, ◌∙◌}
+use Rattle.std.proofs.Common.{Bool, Some, None, cond, sym, ap, ◌∙◌}
 use Rattle.base_core.specs.declared.flaw.Flaw.{Flaw}
 use Rattle.base_core.specs.declared.flaw.Flaw.TheVariants.{Unbuilt}
 use Rattle.skip_spec.proofs.Checks.{damage, row_of_right, row_of_flaw}

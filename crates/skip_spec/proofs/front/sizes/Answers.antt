@@ -1,9 +1,9 @@
-use Rattle.std.proofs.Common.{◌≡◌, ◌≢◌, ◌%◌, Bool, true, false, cond, Option, Some, eqb, sym, ap, ◌∙◌}
+use Rattle.std.proofs.Common.{◌≡◌, ◌%◌, Bool, true, false, cond, Some, sym, ap, ◌∙◌}
 use Rattle.std.proofs.lemmas.Bool.{eq-eqb, ne_eqb}
 use Rattle.base_core.specs.declared.flaw.Flaw.TheVariants.{Unbuilt}
 use Rattle.skip_form.specs.declared.header.Header.{Header}
 use Rattle.skip_spec.specs.FirstFlaw.{is_dirty, row_flaw}
-use Rattle.skip_spec.proofs.Checks.{damage, front_of_size, front_of_row, end_is_length}
+use Rattle.skip_spec.proofs.Checks.{damage, front_of_size, front_of_row}
 use Rattle.skip_spec.proofs.front.sizes.Goals as goal
 
 pub returns-then-not-is_end_right : goal.returns-then-not-is_end_right

@@ -1,4 +1,4 @@
-use Rattle.std.proofs.Common.{◌≡◌, ℕ, ◌+◌, subst, sym, arith}
+use Rattle.std.proofs.Common.{ℕ, ◌+◌, subst, sym, arith}
 use Rattle.skip_form.specs.declared.head.Head.{Head}
 use Rattle.skip_spec.proofs.Walk.{Left, left_step, left_stop, left_past, left_here}
 use Rattle.skip_spec.proofs.starts.start.Goals as goal

@@ -1,4 +1,4 @@
-use Rattle.std.proofs.Common.{◌≡◌, ℕ, Bool, true, false, refl, sym, ap, ◌∙◌}
+use Rattle.std.proofs.Common.{ℕ, true, false, sym, ap, ◌∙◌}
 use Rattle.skip_spec.specs.FirstFlaw.{pointer_flaw}
 use Rattle.skip_spec.proofs.Ways.{way_value}
 use Rattle.skip_spec.proofs.way.way.Goals as goal
