@@ -92,7 +92,7 @@ below_itself k = not_below (is_below k k) (λ e.
     cc)
 
 -- how many starts have a greater key
-abbrev rank : List ℕ → List ℕ → List ℕ → ℕ
+abbrev pub rank : List ℕ → List ℕ → List ℕ → ℕ
 rank file key [] = 0
 rank file key (s ∷ ss) = cond (is_below key (key_in file s)) (suc (rank file key ss)) (rank file key ss)
 
@@ -149,7 +149,7 @@ leads file starts at pointer false gone e g flaw some =
     to false g some m d = m
     to true g some m d = past_delete file starts pointer (subst (λ (t : Bool). cond t (delete_flaw file starts pointer) None ≡ None) g d) some
 
-next_is : (file starts : List ℕ) (at : ℕ) → way_flaw file starts at ≡ None → successor file at ≢ 0 → IsAmong starts (successor file at)
+pub next_is : (file starts : List ℕ) (at : ℕ) → way_flaw file starts at ≡ None → successor file at ≢ 0 → IsAmong starts (successor file at)
 unfolding way_flaw successor
 next_is file starts at e some =
     let all = all_none (way_checks file starts at) e in
@@ -161,7 +161,7 @@ unfolding live_flaw
 live_below file passed at e = let all = all_none (live_checks file passed at) e in below (latest_key passed) (key_in file at) (holds _ at _ all.1.1.1.0)
 
 -- a right step to a live record leaves fewer starts with a greater key
-next_falls : (file starts : List ℕ) (passed : List Entry) → next_flaw file starts passed ≡ None → successor file (latest passed) ≢ 0 → rank file (key_in file (successor file (latest passed))) starts < rank file (latest_key passed) starts
+pub next_falls : (file starts : List ℕ) (passed : List Entry) → next_flaw file starts passed ≡ None → successor file (latest passed) ≢ 0 → rank file (key_in file (successor file (latest passed))) starts < rank file (latest_key passed) starts
 unfolding next_flaw
 next_falls file starts passed e some =
     let all = all_none (next_checks file starts passed) e in

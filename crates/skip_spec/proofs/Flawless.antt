@@ -74,7 +74,7 @@ zeros (x ∷ xs) e =
 no_head_flaw : (p q r s t : Bool) → p ≡ false → q ≡ true → r ≡ true → s ≡ false → t ≡ false → (let none : Option Flaw = None in cond p (Some Short) (cond (not q) (Some Kind) (cond (not r) (Some Level) (cond s (Some Extended) (cond t (Some Short) none)))) ≡ none)
 no_head_flaw p q r s t a b c d e = rw (a, b, c, d, e) refl
 
-row_stands : (file : List ℕ) (at : ℕ) → AreBytes file → end_of file ≤ length file → row_flaw file at ≡ None → StandsAt file at (head_in file at)
+pub row_stands : (file : List ℕ) (at : ℕ) → AreBytes file → end_of file ≤ length file → row_flaw file at ≡ None → StandsAt file at (head_in file at)
 unfolding row_flaw
 row_stands file at bytes inside e =
     let all = all_none (row_checks file at) e in
@@ -86,7 +86,7 @@ row_stands file at bytes inside e =
     StandsAt-head_in file at bytes (no_head_flaw (ltb (length file) (at + 8)) (is_kind_at at (opening_in file at)) (is_level (opening_in file at)) (is_extended (opening_in file at)) (ltb (length file) (at + (head_in file at).size))
     (le-ltb (length file) (at + 8) (omega (arith, room, inside))) kind level plain (le-ltb (length file) (at + (head_in file at).size) (omega (arith, fits, inside))))
 
-row_level : (file : List ℕ) (at : ℕ) → row_flaw file at ≡ None → HasKind file at Put → (head_in file at).level ≡ 1
+pub row_level : (file : List ℕ) (at : ℕ) → row_flaw file at ≡ None → HasKind file at Put → (head_in file at).level ≡ 1
 unfolding row_flaw
 row_level file at e put =
     let all = all_none (row_checks file at) e in
@@ -95,7 +95,7 @@ row_level file at e put =
       | inr one ↦ eqb-true _ _ one
     ]
 
-rows_stand : (file : List ℕ) (from : ℕ) (ss : List ℕ) (to : ℕ) → AreBytes file → end_of file ≤ length file → RightRows file from ss to → Rows file from ss to
+pub rows_stand : (file : List ℕ) (from : ℕ) (ss : List ℕ) (to : ℕ) → AreBytes file → end_of file ≤ length file → RightRows file from ss to → Rows file from ss to
 rows_stand file from [] to bytes inside r = r
 rows_stand file from (s ∷ ss) to bytes inside r = (r.0, row_stands file from bytes inside r.1, rows_stand file (from + (head_in file from).size) ss to bytes inside r.3)
 
@@ -171,7 +171,7 @@ module _ (file starts : List ℕ) (clean : is_dirty file ≡ false) (inside : en
       to false g m c d = inr (inl (m, left_is_put (head_in file v).kind (no_dummy v m) g c, refl))
       to true g m c d = past v m (is_gone (head_in file v).kind g) (subst (λ (t : Bool). cond t (delete_flaw file starts v) None ≡ None) g d)
 
-  successor_is : (at : ℕ) → way_flaw file starts at ≡ None → IsSuccessorUnder file (end_of file) starts at (successor file at)
+  pub successor_is : (at : ℕ) → way_flaw file starts at ≡ None → IsSuccessorUnder file (end_of file) starts at (successor file at)
   unfolding way_flaw successor
   successor_is at e =
       let all = all_none (way_checks file starts at) e in
@@ -179,7 +179,7 @@ module _ (file starts : List ℕ) (clean : is_dirty file ≡ false) (inside : en
       (v, greatest at (slots_of at e), leads at v (eqb v 0) (is_of file v Gone) refl refl all.1.0)
 
   -- what a pointer leads to is the end, or a put record
-  put_of : (v next : ℕ) → LeadsTo file starts v next → next ≢ 0 → IsAmong starts next × HasKind file next Put
+  pub put_of : (v next : ℕ) → LeadsTo file starts v next → next ≢ 0 → IsAmong starts next × HasKind file next Put
   put_of v next (inl z) some = absurd (some z.1)
   put_of v next (inr (inl p)) some = subst (λ (x : ℕ). IsAmong starts x × HasKind file x Put) (sym p.2) (p.0, p.1)
   put_of v next (inr (inr p)) some = elim p.leads [ inl z ↦ absurd (some z) | inr q ↦ q ]
@@ -289,12 +289,12 @@ no_header_flaw None e = refl
 no_header_flaw (Some f) e = absurd (let h : Some (record { at = header_place f; check = f }) ≡ None = e in cc)
 
 pub record FrontIsRight (file : List ℕ) : Type 0 where
-  header : header_flaw file ≡ None
-  least : 336 ≤ end_of file
-  aligned : end_of file % 8 ≡ 0
-  ends : end_of file ≡ length file
-  clean : is_dirty file ≡ false
-  dummy : row_flaw file 64 ≡ None
+  pub header : header_flaw file ≡ None
+  pub least : 336 ≤ end_of file
+  pub aligned : end_of file % 8 ≡ 0
+  pub ends : end_of file ≡ length file
+  pub clean : is_dirty file ≡ false
+  pub dummy : row_flaw file 64 ≡ None
 
 pub front_right : (file : List ℕ) → front_flaw file ≡ None → FrontIsRight file
 unfolding front_flaw

@@ -1,9 +1,16 @@
 //! What a twoskip file means: which map it stands for, when it opens, and which images an unfinished
-//! transaction may leave of it. There are definitions and laws here, and no code.
+//! transaction may leave of it. There are definitions and laws here, and one plain program, which
+//! finds the first flaw of a file.
 #![tactic(auto)]
 
 mod examples;
+mod front;
 mod laws;
+mod live;
+mod starts;
+mod verify;
+mod way;
+mod words;
 
 pub use examples::{
     circular_file_has_its_flaw, deleted_file_opens, one_pair_file_opens,
@@ -13,3 +20,4 @@ pub use laws::{
     changes_give_the_list, file_has_one_first_flaw, file_means_one_map, flawless_file_opens_once,
     near_images_open_alike, permitted_writes_stay_near,
 };
+pub use verify::first_flaw;
