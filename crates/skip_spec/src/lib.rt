@@ -18,3 +18,6 @@ pub use laws::{
     permitted_writes_stay_near,
 };
 pub use verify::first_flaw;
+
+#[cfg(test)]
+mod tests;
