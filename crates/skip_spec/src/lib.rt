@@ -21,3 +21,6 @@ pub use laws::{
     near_images_open_alike, permitted_writes_stay_near,
 };
 pub use verify::first_flaw;
+
+#[cfg(test)]
+mod tests;
