@@ -59,6 +59,23 @@ const CIRCLE_AND_COMMIT: [u8; 104] = [
     0x5D, 0xC5, 0x1C, 0x1A, 0, 0, 0, 0, //
 ];
 
+/// Put records with the key `a` and the values `x` and `y`, and the commit record of both.
+const TWO_PUTS_AND_COMMIT: [u8; 104] = [
+    0x2B, 0x01, 0x00, 0x01, 0x00, 0x00, 0x00, 0x01, //
+    0x00, 0x00, 0x00, 0x00, 0x00, 0x00, 0x00, 0x00, //
+    0x00, 0x00, 0x00, 0x00, 0x00, 0x00, 0x00, 0x00, //
+    0x54, 0x0B, 0x03, 0xC5, 0xA6, 0xE4, 0xE1, 0x00, //
+    0x61, 0x78, 0x00, 0x00, 0x00, 0x00, 0x00, 0x00, //
+    0x2B, 0x01, 0x00, 0x01, 0x00, 0x00, 0x00, 0x01, //
+    0x00, 0x00, 0x00, 0x00, 0x00, 0x00, 0x00, 0x00, //
+    0x00, 0x00, 0x00, 0x00, 0x00, 0x00, 0x00, 0x00, //
+    0x54, 0x0B, 0x03, 0xC5, 0x00, 0x93, 0xEA, 0xB4, //
+    0x61, 0x79, 0x00, 0x00, 0x00, 0x00, 0x00, 0x00, //
+    0x24, 0x00, 0x00, 0x00, 0x00, 0x00, 0x00, 0x00, //
+    0x00, 0x00, 0x00, 0x00, 0x00, 0x00, 0x01, 0x90, //
+    0xC6, 0xA1, 0xDE, 0xAA, 0x00, 0x00, 0x00, 0x00, //
+];
+
 /// Writes bytes at an offset, where there is room.
 fn lay(file: &mut [u8], at: usize, bytes: &[u8]) {
     if at <= file.len() && bytes.len() <= file.len() - at {
@@ -110,9 +127,35 @@ fn circle() -> [u8; 440] {
     file
 }
 
+/// An empty database.
+fn empty() -> [u8; 336] {
+    let mut file = [0u8; 336];
+    lay(&mut file, 0, &HEADER);
+    file[39] = 0;
+    lay(&mut file, 54, &[0x01, 0x50]);
+    lay(&mut file, 60, &[0xA2, 0x94, 0x38, 0x80]);
+    lay(&mut file, 64, &[0x3D, 0x1F]);
+    lay(&mut file, 328, &[0x43, 0x39, 0xBC, 0x53]);
+    file
+}
+
+/// A second transaction has put `a` twice, and the dummy's first slot was written for each.
+fn put_twice() -> [u8; 504] {
+    let mut file = [0u8; 504];
+    lay(&mut file, 0, &one_pair());
+    lay(&mut file, 54, &[0x01, 0xF8]);
+    lay(&mut file, 60, &[0x7D, 0x19, 0x6F, 0x49]);
+    lay(&mut file, 78, &[0x01, 0xB8]);
+    lay(&mut file, 328, &[0x36, 0xFA, 0xE2, 0xCD]);
+    lay(&mut file, 400, &TWO_PUTS_AND_COMMIT);
+    file
+}
+
 #[test]
 fn files_of_the_definitions(rt: HostRuntime) {
+    assert_eq!(rt; first_flaw(&empty()), None);
     assert_eq!(rt; first_flaw(&one_pair()), None);
+    assert_eq!(rt; first_flaw(&put_twice()), None);
     assert_eq!(rt; first_flaw(&deleted()), None);
     let order = Damage {
         at: 336,
@@ -178,21 +221,20 @@ fn damage_with_right_check_words(rt: HostRuntime) {
 }
 
 #[test]
-fn cut_files(rt: HostRuntime) {
-    let file = one_pair();
-    let short = Damage {
-        at: 0,
-        check: Flaw::Short,
-    };
-    let size = Damage {
-        at: 48,
-        check: Flaw::Size,
-    };
-    assert_eq!(rt; first_flaw(cut(&file, 0)), Some(short));
-    assert_eq!(rt; first_flaw(cut(&file, 10)), Some(short));
-    assert_eq!(rt; first_flaw(cut(&file, 64)), Some(size));
-    assert_eq!(rt; first_flaw(cut(&file, 399)), Some(size));
-    assert_eq!(rt; first_flaw(cut(&deleted(), 400)), Some(size));
+fn every_cut(rt: HostRuntime) {
+    let file = put_twice();
+    for count in 0..file.len() {
+        let (at, check) = if count < 64 {
+            (0, Flaw::Short)
+        } else {
+            (48, Flaw::Size)
+        };
+        assert_eq!(rt;
+            first_flaw(cut(&file, count)),
+            Some(Damage { at, check }),
+            "{count} bytes"
+        );
+    }
 }
 
 #[test]
