@@ -2,7 +2,14 @@
 //! the words, the real devices and the process.
 #![tactic(auto)]
 
-use base_core::{NoMemory, STATUS_NO_MEMORY, Text};
+ghost use Rattle.std.specs.Prelude.{◌≡◌, [], Some, None, IfOk, map, string_bytes};
+ghost use Rattle.std.specs.Process.{exit_status};
+ghost use Rattle.base_core.specs.CrashImages.{IsDurable};
+ghost use Rattle.base_core.specs.declared.status.TheConstants.{STATUS_DONE, STATUS_USAGE};
+ghost use Rattle.cyr_top.specs.JobOf.{job_of, main_path};
+ghost use Rattle.cyr_top.specs.declared.jobs.Job.{Job};
+
+use base_core::{Host, NoMemory, STATUS_NO_MEMORY, Text};
 use cyr_top::{WordFault, job, paths, run};
 use disk_kinds::FileHost;
 use std::alloc::Global;
@@ -27,7 +34,10 @@ fn words_of(rt: &(impl Env + AllocGlobal)) -> io::Result<Vec<String>> {
 }
 
 // The path of the job's main file, or an empty one where the words give no job.
-fn main_path(alloc: Global, words: &[String]) -> Result<Text, NoMemory> {
+fn main_path(alloc: Global, words: &[String]) -> Result<Text, NoMemory>
+    ensures job { IfOk result (λ path. (job : Job) → job_of (map string_bytes words.now) ≡ Some job → path ≡ main_path job) }
+    ensures usage { IfOk result (λ path. job_of (map string_bytes words.now) ≡ None → path ≡ []) }
+{
     match job(alloc, words) {
         Ok(job) => Ok(paths(alloc, &job)?.main),
         Err(WordFault::Usage) => Text::of(alloc, ""),
@@ -36,9 +46,20 @@ fn main_path(alloc: Global, words: &[String]) -> Result<Text, NoMemory> {
 }
 
 // Says why there was no run, and ends with this status.
-fn refused(rt: &impl Eprint, why: &str, status: u8) -> ExitCode {
+fn refused(rt: &impl Eprint, why: &str, status: u8) -> ExitCode
+    ensures { exit_status result ≡ status }
+{
     let _ = rt.eprintln(why);
     ExitCode::from(status)
+}
+
+// Runs, and ends with the run's status.
+fn ended<H: Host>(alloc: Global, words: &[String], host: &mut H) -> ExitCode
+    ensures usage { job_of (map string_bytes words.now) ≡ None → exit_status result ≡ STATUS_USAGE }
+    ensures done { exit_status result ≡ STATUS_DONE → IsDurable (H.state host.new) }
+    ensures rest { H.host_rest host.old host.new }
+{
+    ExitCode::from(run(alloc, words, host).status)
 }
 
 fn main(rt: HostRuntime) -> ExitCode {
@@ -53,5 +74,5 @@ fn main(rt: HostRuntime) -> ExitCode {
         return refused(&rt, "no memory", STATUS_NO_MEMORY);
     };
     let mut host = FileHost::new(rt, path);
-    ExitCode::from(run(rt.alloc(), &words, &mut host).status)
+    ended(rt.alloc(), &words, &mut host)
 }
