@@ -1,2 +1,3 @@
+pub mod Landings
 pub mod Lengths
 pub mod Moments

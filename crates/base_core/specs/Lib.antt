@@ -3,6 +3,7 @@ pub mod CrashImages
 pub mod DiskCalls
 pub mod Escapes
 pub mod HostCalls
+pub mod Landing
 pub mod Notes
 pub mod OrderedMap
 pub mod Time

@@ -3,7 +3,7 @@ ghost use Rattle.std.specs.Prelude.{◌≡◌, ◌<◌, ◌≤◌, ℕ, List, Op
 ghost use Rattle.std.specs.Option.{option_map};
 ghost use Rattle.base_core.specs.Causes.{HasCause};
 ghost use Rattle.base_core.specs.CrashImages.{Image, DiskState, IsMoment, GoesOn, KeepsMain};
-ghost use Rattle.base_core.specs.DiskCalls.{DiskCall, IsLength, HasByteAt, begun, appended, synced, IsWhole, Syncs, Publishes};
+ghost use Rattle.base_core.specs.DiskCalls.{DiskCall, IsLength, HasByteAt, HasOffset, begun, appended, synced, IsWhole, Writes, Cuts, Syncs, Publishes};
 
 /// The device failed.
 #[derive(Clone, Copy, Debug, PartialEq, Eq)]
@@ -36,6 +36,24 @@ pub trait Disk {
         ensures bound { IfOk result (λ count. (count ≤ length into.new) × (0 < length into.new → 0 < count)) }
         ensures main { KeepsMain (state self.old) (state self.new) }
         ensures fresh { (state self.new).fresh ≡ (state self.old).fresh }
+        ensures call { DiskCall (state self.old) (state self.new) }
+        ensures cause { HasCause (state self.old).faults (state self.new).faults result }
+        ensures rest { disk_rest self.old self.new };
+
+    /// Writes bytes into the main file from the offset `at` on, which is in it or at its end. They land line by
+    /// line: a crash leaves each aligned 64-byte line as it was or as it is written, whole, and after a failure
+    /// the file reads so too.
+    fn write_at(&mut self, at: u64, bytes: &[u8]) -> Result<(), Failed>
+        requires { IsSome (state self.old).reads → HasOffset (state self.old).reads at }
+        ensures write { Writes at bytes.now (state self.old) (state self.new) result }
+        ensures call { DiskCall (state self.old) (state self.new) }
+        ensures cause { HasCause (state self.old).faults (state self.new).faults result }
+        ensures rest { disk_rest self.old self.new };
+
+    /// Cuts the main file to its first bytes, so many. A crash leaves some first bytes, so many at least.
+    fn cut(&mut self, length: u64) -> Result<(), Failed>
+        requires { IsSome (state self.old).reads → HasOffset (state self.old).reads length }
+        ensures cut { Cuts length (state self.old) (state self.new) result }
         ensures call { DiskCall (state self.old) (state self.new) }
         ensures cause { HasCause (state self.old).faults (state self.new).faults result }
         ensures rest { disk_rest self.old self.new };
