@@ -87,10 +87,11 @@ lands_line at line bytes old image from to fits lands = ⊎_elim (λ same. inl (
 -- ---- which landings there are
 
 -- the write lands whole
-pub lands_whole : (at : ℕ) (bytes old : List ℕ) → at ≤ length old → Lands old at bytes (written_at at bytes old)
-lands_whole at bytes old fits =
-    let long = length-written at bytes old fits in
-    record { no_shorter = omega (arith, long); no_longer = omega (arith, long); lines = λ line. inr (λ i _ _ _. refl) }
+pub lands_whole : (at : ℕ) (bytes old : List ℕ) → Lands old at bytes (written_at at bytes old)
+lands_whole at bytes old = record { no_shorter = omega (arith, long, length-take at old, length-drop (at + length bytes) old); no_longer = omega (arith, long, length-take at old, length-drop (at + length bytes) old); lines = λ line. inr (λ i _ _ _. refl) }
+  where
+    long : length (written_at at bytes old) ≡ length (take at old) + length bytes + length (drop (at + length bytes) old)
+    long = length-append (take at old ++ bytes) (drop (at + length bytes) old) ∙ ap (λ (n : ℕ). n + length (drop (at + length bytes) old)) (length-append (take at old) bytes)
 
 -- it doesn't land
 pub lands_none : (at : ℕ) (bytes old : List ℕ) → Lands old at bytes old

@@ -1,3 +1,5 @@
+pub mod Calls
 pub mod Pending
 pub mod StepLemmas
 pub mod Time
+pub mod Writing

@@ -1,15 +1,19 @@
 -- One event more is one step more.
-use Rattle.std.proofs.Common.{◌≡◌, ℕ, ◌+◌, ◌≤◌, ◌∷◌, [], ◌++◌, append-nil, List, length, drop, refl, sym, ◌∙◌, ap, arith, length-drop}
-use Rattle.std.proofs.lemmas.List.{take-append-le, drop-append-le, take_all}
+use Rattle.std.proofs.Common.{◌≡◌, ℕ, ◌+◌, ◌≤◌, ◌∷◌, [], ◌++◌, append-nil, List, length, take, drop, refl, sym, ◌∙◌, ap, arith, length-drop}
+use Rattle.std.proofs.lemmas.List.{take-append-le, drop-append-le}
 use Rattle.disk_kinds.specs.declared.call_log.Event.{Event}
-use Rattle.disk_kinds.specs.declared.call_log.Event.TheVariants.{Kept, Began, Appended, Synced, Published, PublishPending, Told}
-use Rattle.disk_kinds.specs.History.{Step, new_extended, size_of, total_size, step_of, steps_of}
+use Rattle.disk_kinds.specs.declared.call_log.Event.TheVariants.{Kept, Began, Appended, Wrote, WritePending, Cut, CutPending, Synced, Published, PublishPending, Told}
+use Rattle.disk_kinds.specs.History.{Step, new_extended, main_written, write_pending, size_of, total_size, step_of, steps_of}
 
 -- an event reads only its own bytes
 step_front : (e : Event) (bytes more : List ℕ) → size_of e ≤ length bytes → step_of e (bytes ++ more) ≡ step_of e bytes
 step_front Kept bytes more fits = refl
 step_front Began bytes more fits = refl
 step_front (Appended count) bytes more fits = ap new_extended (take-append-le count bytes more fits)
+step_front (Wrote at count) bytes more fits = ap (main_written at) (take-append-le count bytes more fits)
+step_front (WritePending at count made) bytes more fits = ap (λ (l : List ℕ). write_pending at (take made l)) (take-append-le count bytes more fits)
+step_front (Cut to) bytes more fits = refl
+step_front (CutPending to) bytes more fits = refl
 step_front Synced bytes more fits = refl
 step_front Published bytes more fits = refl
 step_front PublishPending bytes more fits = refl
@@ -32,9 +36,3 @@ total_size-append (f ∷ events) e = omega (arith, total_size-append events e)
 -- an event without bytes
 pub steps-bare : (events : List Event) (e : Event) (bytes : List ℕ) → total_size events ≡ length bytes → size_of e ≡ 0 → steps_of (events ++ e ∷ []) bytes ≡ steps_of events bytes ++ step_of e [] ∷ []
 steps-bare events e bytes same bare = ap (λ (l : List ℕ). steps_of (events ++ e ∷ []) l) (sym (append-nil bytes)) ∙ steps-append events e bytes [] same bare
-
--- bytes that are added
-pub steps-bytes : (events : List Event) (bytes more : List ℕ) → total_size events ≡ length bytes → steps_of (events ++ Appended (length more) ∷ []) (bytes ++ more) ≡ steps_of events bytes ++ new_extended more ∷ []
-steps-bytes events bytes more same =
-    steps-append events (Appended (length more)) bytes more same refl
-    ∙ ap (λ (l : List ℕ). steps_of events bytes ++ new_extended l ∷ []) (take_all (length more) more (omega arith))

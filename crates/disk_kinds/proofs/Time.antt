@@ -37,7 +37,7 @@ module _ (start : Moment) where
   time_of old new e (inl more) = subst (λ (es : List Step). Time old es) (sym more) (one_more old e)
   time_of old new e (inr same) = subst (λ (es : List Step). Time old es) (sym same) (no_more old)
 
-goes_on : (start : Moment) (old new : List Step) (e : Step) (fresh fresh' : Option Fresh) (faults faults' written written' publishes publishes' : ℕ) → (new ≡ old ++ e ∷ []) ⊎ (new ≡ old) → faults ≤ faults' → written ≤ written' → publishes ≤ publishes'
+pub goes_on : (start : Moment) (old new : List Step) (e : Step) (fresh fresh' : Option Fresh) (faults faults' written written' publishes publishes' : ℕ) → (new ≡ old ++ e ∷ []) ⊎ (new ≡ old) → faults ≤ faults' → written ≤ written' → publishes ≤ publishes'
     → GoesOn (state_of start old fresh faults written publishes) (state_of start new fresh' faults' written' publishes')
 goes_on start old new e fresh fresh' faults faults' written written' publishes publishes' noted failed more counts =
     let time = time_of start old new e noted in

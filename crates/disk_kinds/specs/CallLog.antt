@@ -1,10 +1,10 @@
 -- The record of calls that a disk in memory keeps.
-use Rattle.std.specs.Prelude.{◌≡◌, ℕ, ◌+◌, ◌-◌, ◌*◌, ◌^◌, ◌<◌, ◌≤◌, min, List, [], ◌∷◌, ◌++◌, vec_len, Contains, Result, OnErr, OnOk}
+use Rattle.std.specs.Prelude.{◌≡◌, ℕ, ◌+◌, ◌-◌, ◌*◌, ◌^◌, ◌<◌, ◌≤◌, ◌⊎◌, min, Bool, IsTrue, List, [], ◌∷◌, ◌++◌, vec_len, Contains, Result, OnErr, OnOk}
 use Rattle.base_core.specs.Causes.{Rose}
-use Rattle.disk_kinds.specs.History.{Step, steps_of}
+use Rattle.disk_kinds.specs.History.{Step, kept, steps_of}
 use Rattle.disk_kinds.specs.declared.call_log.CallLog.{CallLog}
 use Rattle.disk_kinds.specs.declared.call_log.Admission.{Admission}
-use Rattle.disk_kinds.specs.declared.call_log.Admission.TheVariants.{Served, Listed, NoRoom}
+use Rattle.disk_kinds.specs.declared.call_log.Admission.TheVariants.{Served, Refused, NoRoom}
 
 -- the past that the record tells
 abbrev pub log_steps : CallLog → List Step
@@ -18,9 +18,9 @@ log_left log = log.room - (64 * vec_len log.events + vec_len log.bytes)
 abbrev pub log_next : CallLog → ℕ
 log_next log = min (log.calls + 1) (2 ^ 64 - 1)
 
--- the next call is to fail by the list
-abbrev pub IsListed : CallLog → Type 0
-IsListed log = Contains log.fails.items (log_next log)
+-- the next call is to fail by the list, or since the stop is met
+abbrev pub IsRefused : CallLog → Bool → Type 0
+IsRefused log is_stopped = Contains log.fails.items (log_next log) ⊎ IsTrue is_stopped
 
 -- a record that is just begun
 pub record IsNewLog (log : CallLog) (size : ℕ) (numbers : List ℕ) : Type 0 where
@@ -51,17 +51,17 @@ pub record NotesStep (step : Step) (cost : ℕ) (old new : CallLog) : Type 0 whe
   pub fails : new.fails.items ≡ old.fails.items
 
 -- a call that is served: its step is noted
-pub record Serves (listed : Type 0) (step : Step) (cost : ℕ) (old new : CallLog) : Type 0 where
+pub record Serves (refused : Type 0) (step : Step) (cost : ℕ) (old new : CallLog) : Type 0 where
   pub steps : log_steps new ≡ log_steps old ++ step ∷ []
   pub left : log_left new + cost ≡ log_left old
-  pub unlisted : listed → ⊥
+  pub admitted : refused → ⊥
   pub faults : new.faults ≡ old.faults
 
--- a call that fails by the list: its step is noted too
-pub record FailsByList (listed : Type 0) (step : Step) (cost : ℕ) (old new : CallLog) : Type 0 where
+-- a call that fails by the list or the stop: its step is noted too
+pub record Fails (refused : Type 0) (step : Step) (cost : ℕ) (old new : CallLog) : Type 0 where
   pub steps : log_steps new ≡ log_steps old ++ step ∷ []
   pub left : log_left new + cost ≡ log_left old
-  pub by_list : listed
+  pub cause : refused
   pub fault : CountsFault old new
 
 -- a call that finds no room: nothing is noted
@@ -71,22 +71,28 @@ pub record LacksRoom (cost : ℕ) (old new : CallLog) : Type 0 where
   pub lacks : log_left old < cost
   pub fault : CountsFault old new
 
--- what a call notes and takes, by what becomes of it, where `listed` says that its number is on the list
+-- what a call notes and takes, by what becomes of it, where `refused` says that it is to fail
 abbrev pub Becomes : Type 0 → Step → Step → ℕ → CallLog → CallLog → Admission → Type 0
-Becomes listed done failed cost old new Served = Serves listed done cost old new
-Becomes listed done failed cost old new Listed = FailsByList listed failed cost old new
-Becomes listed done failed cost old new NoRoom = LacksRoom cost old new
+Becomes refused done failed cost old new Served = Serves refused done cost old new
+Becomes refused done failed cost old new Refused = Fails refused failed cost old new
+Becomes refused done failed cost old new NoRoom = LacksRoom cost old new
 
--- a call that only reads: it notes nothing, and fails by the list alone
+-- a call that only reads: it notes nothing
 pub record ReadsOnly {T E : Type 0} (old new : CallLog) (result : Result T E) : Type 0 where
   pub steps : log_steps new ≡ log_steps old
   pub left : log_left new ≡ log_left old
   pub served : OnOk result (new.faults ≡ old.faults)
   pub fault : OnErr result (CountsFault old new)
 
--- a failure is counted, and nothing else happens
+-- a call after the stop: it takes its room where there is so much, and does nothing
+pub record Stops (old new : CallLog) : Type 0 where
+  pub steps : (log_steps new ≡ log_steps old ++ kept ∷ []) ⊎ (log_steps new ≡ log_steps old)
+  pub covered : 64 ≤ log_left old → log_left new + 64 ≡ log_left old
+  pub lacking : log_left old < 64 → log_left new ≡ log_left old
+  pub fault : CountsFault old new
+
+-- a failure is counted, and nothing is noted
 pub record Refuses (old new : CallLog) : Type 0 where
   pub steps : log_steps new ≡ log_steps old
   pub left : log_left new ≡ log_left old
-  pub calls : new.calls ≡ old.calls
   pub fault : CountsFault old new

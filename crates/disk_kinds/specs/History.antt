@@ -1,11 +1,14 @@
 -- What the past of a disk in memory did to its main file.
-use Rattle.std.specs.Prelude.{◌≡◌, ◌⊎◌, ℕ, ◌+◌, ◌≤◌, Bool, true, false, List, [], ◌∷◌, ◌++◌, Option, Some, None, Vec, length, take, drop}
+use Rattle.std.specs.Prelude.{◌≡◌, ◌⊎◌, ℕ, zero, suc, ◌+◌, ◌-◌, ◌*◌, ◌/◌, ◌≤◌, min, Bool, true, false, List, [], ◌∷◌, ◌++◌, Option, Some, None, Vec, length, take, drop}
+use Rattle.std.specs.Option.{option_map}
 use Rattle.std.specs.Borrow.{Bor}
 use Rattle.std.specs.declared.alloc.Global.{Global}
 use Rattle.base_core.specs.CrashImages.{Image, Fresh}
+use Rattle.base_core.specs.DiskCalls.{OnFile}
+use Rattle.base_core.specs.Landing.{written_at, Lands, Shortens}
 use Rattle.disk_kinds.specs.Replay.{after}
 use Rattle.disk_kinds.specs.declared.call_log.Event.{Event}
-use Rattle.disk_kinds.specs.declared.call_log.Event.TheVariants.{Kept, Began, Appended, Synced, Published, PublishPending, Told}
+use Rattle.disk_kinds.specs.declared.call_log.Event.TheVariants.{Kept, Began, Appended, Wrote, WritePending, Cut, CutPending, Synced, Published, PublishPending, Told}
 use Rattle.disk_kinds.specs.declared.memory.NewFile.{NewFile}
 use Rattle.disk_kinds.specs.declared.memory.NewFile.TheVariants.{Absent, Begun, Whole}
 
@@ -14,6 +17,10 @@ pub data Step : Type 0 where
   kept : Step
   new_begun : Step
   new_extended : List ℕ → Step
+  main_written : ℕ → List ℕ → Step
+  write_pending : ℕ → List ℕ → Step
+  main_cut : ℕ → Step
+  cut_pending : ℕ → Step
   main_synced : Step
   new_published : Step
   publish_pending : Step
@@ -22,6 +29,8 @@ pub data Step : Type 0 where
 -- how many bytes of the record are the event's own
 abbrev pub size_of : Event → ℕ
 size_of (Appended count) = count
+size_of (Wrote at count) = count
+size_of (WritePending at count made) = count
 size_of _ = 0
 
 -- how many bytes of the record these events have for their own
@@ -34,6 +43,10 @@ abbrev pub step_of : Event → List ℕ → Step
 step_of Kept bytes = kept
 step_of Began bytes = new_begun
 step_of (Appended count) bytes = new_extended (take count bytes)
+step_of (Wrote at count) bytes = main_written at (take count bytes)
+step_of (WritePending at count made) bytes = write_pending at (take made (take count bytes))
+step_of (Cut to) bytes = main_cut to
+step_of (CutPending to) bytes = cut_pending to
 step_of Synced bytes = main_synced
 step_of Published bytes = new_published
 step_of PublishPending bytes = publish_pending
@@ -45,41 +58,77 @@ steps_of [] bytes = []
 steps_of (e ∷ events) bytes = step_of e bytes ∷ steps_of events (drop (size_of e) bytes)
 
 -- a change of the main file that is not on the disk for sure
-pub data Landing : Type 0 where
-  replaced : List ℕ → Landing
+pub data Change : Type 0 where
+  laid : ℕ → List ℕ → Change
+  shortened : ℕ → Change
+  replaced : List ℕ → Change
 
--- what stands after some steps: what the main file reads, what was last on the disk for sure, the landings since, the newest first, the bytes told, and what the new file holds
+-- how many lines these bytes touch, by their offset and number
+abbrev pub line_count : ℕ → ℕ → ℕ
+line_count at zero = 0
+line_count at (suc n) = (at + n) / 64 - at / 64 + 1
+
+-- how many of so many bytes lie in the first of their lines, so many
+abbrev pub first_bytes : ℕ → ℕ → ℕ → ℕ
+first_bytes at size zero = 0
+first_bytes at size (suc n) = min size (64 * (at / 64 + suc n) - at)
+
+-- how many landings a change has: each line of a write, and one for a cut or a new file
+abbrev pub landings_of : Change → ℕ
+landings_of (laid at bytes) = line_count at (length bytes)
+landings_of (shortened to) = 1
+landings_of (replaced bytes) = 1
+
+-- how many landings these changes have
+abbrev pub landing_count : List Change → ℕ
+landing_count [] = 0
+landing_count (change ∷ changes) = landing_count changes + landings_of change
+
+-- What stands after some steps: what the main file reads, what was last on the disk for sure, the changes since, the
+-- newest first, the landings made, the bytes told, and what the new file holds.
 pub record Moment : Type 0 where
   pub reads : Image
   pub base : Image
-  pub pending : List Landing
+  pub pending : List Change
+  pub landings : ℕ
   pub mark : ℕ
   pub new_bytes : List ℕ
 
--- at first this image is on the disk, and nothing was told
+-- at first this image is on the disk, nothing has landed since, and nothing was told
 abbrev pub first_moment : Image → Moment
-first_moment image = record { reads = image; base = image; pending = []; mark = 0; new_bytes = [] }
+first_moment image = record { reads = image; base = image; pending = []; landings = 0; mark = 0; new_bytes = [] }
+
+-- a write is pending, unless it has no bytes
+abbrev pub with_write : ℕ → List ℕ → List Change → List Change
+with_write at [] pending = pending
+with_write at (b ∷ bytes) pending = laid at (b ∷ bytes) ∷ pending
 
 -- what one step changes
 abbrev pub moment_step : Moment → Step → Moment
 moment_step m kept = m
 moment_step m new_begun = record m { new_bytes = [] }
 moment_step m (new_extended bytes) = record m { new_bytes = m.new_bytes ++ bytes }
+moment_step m (main_written at bytes) = record m { reads = option_map (written_at at bytes) m.reads; pending = with_write at bytes m.pending; landings = m.landings + line_count at (length bytes) }
+moment_step m (write_pending at bytes) = record m { pending = with_write at bytes m.pending; landings = m.landings + line_count at (length bytes) }
+moment_step m (main_cut to) = record m { reads = option_map (λ b. take to b) m.reads; pending = shortened to ∷ m.pending; landings = m.landings + 1 }
+moment_step m (cut_pending to) = record m { pending = shortened to ∷ m.pending; landings = m.landings + 1 }
 moment_step m main_synced = record m { base = m.reads; pending = [] }
-moment_step m new_published = record m { reads = Some m.new_bytes; base = Some m.new_bytes; pending = []; new_bytes = [] }
-moment_step m publish_pending = record m { pending = replaced m.new_bytes ∷ m.pending }
+moment_step m new_published = record m { reads = Some m.new_bytes; base = Some m.new_bytes; pending = []; landings = m.landings + 1; new_bytes = [] }
+moment_step m publish_pending = record m { pending = replaced m.new_bytes ∷ m.pending; landings = m.landings + 1 }
 moment_step m (output count) = record m { mark = m.mark + count }
 
--- a landing happened, or it did not
-abbrev pub Happens : Landing → Image → Image → Type 0
+-- a change landed, whole, in part or not at all
+abbrev pub Happens : Change → Image → Image → Type 0
+Happens (laid at bytes) before now = OnFile (λ b c. Lands b at bytes c) before now
+Happens (shortened to) before now = OnFile (λ b c. Shortens b to c) before now
 Happens (replaced bytes) before now = (now ≡ before) ⊎ (now ≡ Some bytes)
 
--- an image on the disk for sure, with some of the landings since
-abbrev pub LeftBy : Image → List Landing → Image → Type 0
+-- an image on the disk for sure, with what landed of the changes since
+abbrev pub LeftBy : Image → List Change → Image → Type 0
 LeftBy base [] c = c ≡ base
-LeftBy base (landing ∷ pending) c = (d : Image) × LeftBy base pending d × Happens landing d c
+LeftBy base (change ∷ pending) c = (d : Image) × LeftBy base pending d × Happens change d c
 
--- what a crash may leave: what is read, or an image on the disk for sure with some of the landings since
+-- what a crash may leave: what is read, or an image on the disk for sure with what landed of the changes since
 abbrev pub IsImage : Moment → Image → Type 0
 IsImage m c = (c ≡ m.reads) ⊎ LeftBy m.base m.pending c
 

@@ -3,7 +3,7 @@ use Rattle.std.specs.Prelude.{◌≡◌, ◌⊎◌, ℕ, ◌+◌, ◌-◌, ◌<�
 use Rattle.std.proofs.Common.{refl, ◌∙◌}
 use Rattle.base_core.specs.CrashImages.{DiskState}
 use Rattle.base_core.specs.HostCalls.{HostState}
-use Rattle.disk_kinds.specs.Memory.{mem_state, record_left, next_call, MemRest, mem_rest_same, mem_rest_then}
+use Rattle.disk_kinds.specs.Memory.{mem_state, record_left, next_call, IsStopped, MemRest, mem_rest_same, mem_rest_then}
 use Rattle.disk_kinds.specs.declared.memory.MemDisk.{MemDisk}
 use Rattle.disk_kinds.specs.declared.mem_host.MemHost.{MemHost}
 
@@ -48,9 +48,9 @@ told_left h = h.room - vec_len h.told
 abbrev pub warned_left : MemHost → ℕ
 warned_left h = h.room - vec_len h.warned
 
--- the next tell is to fail by the list, or its bytes or its record have no room
+-- the next tell is to fail by the list, the disk's stop is met, or its bytes or its record have no room
 abbrev pub CannotTell : MemHost → ℕ → Type 0
-CannotTell h count = Contains (tell_fail_list h) (next_tell h) ⊎ (record_left h.disk < 64) ⊎ (told_left h < count)
+CannotTell h count = Contains (tell_fail_list h) (next_tell h) ⊎ IsStopped h.disk 0 ⊎ (record_left h.disk < 64) ⊎ (told_left h < count)
 
 -- a tell has its number, and takes 64 bytes of the record where record and stream have room, and none otherwise
 pub record CountsTell (old new : MemHost) (count : ℕ) : Type 0 where

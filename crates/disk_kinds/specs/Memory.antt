@@ -1,12 +1,14 @@
 -- A disk in memory as its trait sees it, and when its calls fail.
-use Rattle.std.specs.Prelude.{◌≡◌, ◌⊎◌, ℕ, ◌+◌, ◌-◌, ◌<◌, ◌≤◌, ◌^◌, min, List, Option, Some, Result, OnOk, OnErr, Contains, length}
+use Rattle.std.specs.Prelude.{◌≡◌, ◌⊎◌, ◌↔◌, ℕ, ◌+◌, ◌-◌, ◌<◌, ◌≤◌, ◌^◌, ◌*◌, min, max, List, Option, Some, None, Result, OnOk, OnErr, Contains, length, take}
 use Rattle.std.proofs.Common.{inl, refl}
 use Rattle.base_core.specs.CrashImages.{Image, Fresh, DiskState, IsMoment, GoesOn, LeavesOnly}
-use Rattle.base_core.specs.DiskCalls.{new_image}
+use Rattle.base_core.specs.DiskCalls.{OnFile, new_image}
+use Rattle.base_core.specs.Landing.{Lands, Shortens}
 use Rattle.base_core.specs.HostCalls.{TellKeeps}
 use Rattle.base_core.specs.Time.{goes_same, goes_then}
 use Rattle.disk_kinds.specs.Replay.{LeftSince, replay_now, replay_counts, replay_earlier}
-use Rattle.disk_kinds.specs.History.{Step, Moment, moment_step, first_moment, moment_after, IsImage, mark_of, start_image, fresh_of}
+use Rattle.disk_kinds.specs.History.{Step, Moment, line_count, first_bytes, landing_count, moment_step, first_moment, moment_after, IsImage, mark_of, start_image, fresh_of}
+use Rattle.disk_kinds.specs.Landings.{before_stop, Passes}
 use Rattle.disk_kinds.specs.CallLog.{log_steps, log_left, log_next}
 use Rattle.disk_kinds.specs.declared.memory.MemDisk.{MemDisk}
 
@@ -29,6 +31,10 @@ state_of start steps fresh faults written publishes =
 -- what the disk reads, may leave and counts
 abbrev pub mem_state : MemDisk → DiskState
 mem_state d = state_of (first_moment (start_image d.start)) (log_steps d.log) (fresh_of d.new_file d.new_bytes.items) d.log.faults d.written d.publishes
+
+-- what stands now
+abbrev pub now_of : MemDisk → Moment
+now_of d = moment_after (first_moment (start_image d.start)) (log_steps d.log)
 
 -- the laws of each state
 pub mem_moment : (d : MemDisk) → IsMoment (mem_state d)
@@ -58,31 +64,114 @@ record_room d = d.log.room
 abbrev pub record_left : MemDisk → ℕ
 record_left d = log_left d.log
 
--- the next call is to fail by the list, or the record has no room for it
-abbrev pub CannotServe : MemDisk → ℕ → Type 0
-CannotServe d cost = Contains (fail_list d) (next_call d) ⊎ (record_left d < cost)
+-- how many landings were made
+abbrev pub landings_made : MemDisk → ℕ
+landings_made d = (now_of d).landings
 
--- room of the record is taken where it covers the cost, and none otherwise
-pub record Takes (old new : MemDisk) (cost : ℕ) : Type 0 where
-  pub covered : cost ≤ record_left old → record_left new + cost ≡ record_left old
-  pub lacking : record_left old < cost → record_left new ≡ record_left old
+-- how many of them are not on the disk for sure
+abbrev pub landings_pending : MemDisk → ℕ
+landings_pending d = landing_count (now_of d).pending
+
+-- after how many landings every call fails, where that is set
+abbrev pub stop_of : MemDisk → Option ℕ
+stop_of d = d.landings.stop
+
+-- the stop is met, or so many further landings pass it
+abbrev pub IsStopped : MemDisk → ℕ → Type 0
+IsStopped d count = Passes (stop_of d) (landings_made d + max 1 count)
+
+-- the next call is to fail by the list, or by the stop where it makes so many landings
+abbrev pub IsRefused : MemDisk → ℕ → Type 0
+IsRefused d count = Contains (fail_list d) (next_call d) ⊎ IsStopped d count
+
+-- the next call, which makes no landing, is to fail, or the record has no room for it
+abbrev pub CannotServe : MemDisk → ℕ → Type 0
+CannotServe d cost = IsRefused d 0 ⊎ (record_left d < cost)
+
+-- the record has room for a call, and what is pending for one landing
+pub record HasLandingRoom (d : MemDisk) : Type 0 where
+  pub recorded : 64 ≤ record_left d
+  pub pends : 64 * (landings_pending d + 1) ≤ record_room d
+
+-- the next call, which makes one landing, is to fail, or there is no room for it
+abbrev pub CannotLand : MemDisk → Type 0
+CannotLand d = IsRefused d 1 ⊎ (HasLandingRoom d → ⊥)
+
+-- the record has room for a write and its bytes, the main file for the bytes, and what is pending for each line
+pub record HasWriteRoom (d : MemDisk) (at size : ℕ) : Type 0 where
+  pub recorded : 64 + size ≤ record_left d
+  pub inside : at + size ≤ record_room d
+  pub pends : 64 * (landings_pending d + line_count at size) ≤ record_room d
+
+-- the next call, a write of so many bytes, is to fail, or there is no room for it
+abbrev pub CannotWrite : MemDisk → ℕ → ℕ → Type 0
+CannotWrite d at size = IsRefused d (line_count at size) ⊎ (HasWriteRoom d at size → ⊥)
+
+-- a call with room makes its landings, so many, up to the stop
+pub record Makes (old new : MemDisk) (fits : Type 0) (count : ℕ) : Type 0 where
+  pub covered : fits → landings_made new ≡ landings_made old + before_stop (stop_of old) (landings_made old) count
+  pub lacking : (fits → ⊥) → landings_made new ≡ landings_made old
+
+-- room of the record is taken where there is room for the call, and none otherwise
+pub record Takes (old new : MemDisk) (fits : Type 0) (cost : ℕ) : Type 0 where
+  pub covered : fits → record_left new + cost ≡ record_left old
+  pub lacking : (fits → ⊥) → record_left new ≡ record_left old
 
 -- a call has its number and takes its room
-pub record CountsCall (old new : MemDisk) (cost : ℕ) : Type 0 where
+pub record CountsCall (old new : MemDisk) (fits : Type 0) (cost : ℕ) : Type 0 where
   pub next : next_call new ≡ min (next_call old + 1) (2 ^ 64 - 1)
-  pub takes : Takes old new cost
+  pub takes : Takes old new fits cost
 
 -- what every step keeps of a disk in memory
 pub record MemRest (old new : MemDisk) : Type 0 where
   pub time : GoesOn (mem_state old) (mem_state new)
   pub fails : fail_list new ≡ fail_list old
   pub room : record_room new ≡ record_room old
+  pub stop : stop_of new ≡ stop_of old
 
--- a publish that failed though the record had room for it: the file reads as before, and a crash leaves it with or without the new file in its place
-pub record PublishPends (old new : MemDisk) : Type 0 where
+-- A call that failed, and may have changed the file. It reads as before. A crash leaves what it could leave before, and,
+-- where there was room for the call, what that call makes of it; and nothing else.
+pub record Pends (old new : MemDisk) (fits : Type 0) (makes : Image → Image → Type 0) : Type 0 where
   pub reads : (mem_state new).reads ≡ (mem_state old).reads
   pub keeps : (c : Image) → (mem_state old).leaves c → (mem_state new).leaves c
-  pub adds : 64 ≤ record_left old → (c : Image) → new_image (mem_state old).fresh ≡ Some c → (mem_state new).leaves c
+  pub adds : fits → (b c : Image) → (mem_state old).leaves b → makes b c → (mem_state new).leaves c
+  pub only : (c : Image) → (mem_state new).leaves c → (mem_state old).leaves c ⊎ ((b : Image) × (mem_state old).leaves b × makes b c)
+
+-- how many of a write's bytes lie in lines before the stop
+abbrev pub bytes_before_stop : MemDisk → ℕ → ℕ → ℕ
+bytes_before_stop d at size = first_bytes at size (before_stop (stop_of d) (landings_made d) (line_count at size))
+
+-- some bytes of the write are before the stop, and land
+abbrev pub MakesLines : MemDisk → ℕ → List ℕ → Image → Image → Type 0
+MakesLines d at bytes b c =
+    let made = bytes_before_stop d at (length bytes) in
+    (0 < made) × OnFile (λ was is. Lands was at (take made bytes) is) b c
+
+-- a failed write
+abbrev pub WritePends : MemDisk → MemDisk → ℕ → List ℕ → Type 0
+WritePends old new at bytes = Pends old new (HasWriteRoom old at (length bytes)) (MakesLines old at bytes)
+
+-- a failed cut
+abbrev pub CutPends : MemDisk → MemDisk → ℕ → Type 0
+CutPends old new to = Pends old new (HasLandingRoom old) (λ b c. (IsStopped old 1 → ⊥) × OnFile (λ was is. Shortens was to is) b c)
+
+-- a failed publish
+abbrev pub PublishPends : MemDisk → MemDisk → Type 0
+PublishPends old new = Pends old new (HasLandingRoom old) (λ b c. (IsStopped old 1 → ⊥) × (new_image (mem_state old).fresh ≡ Some c))
+
+-- all but the stop is as before
+pub record SameButStop (old new : MemDisk) : Type 0 where
+  pub now : now_of new ≡ now_of old
+  pub time : (mem_state new).clock ≡ (mem_state old).clock
+  pub left_since : (t : ℕ) (c : Image) (n : ℕ) → (mem_state new).left_since t c n ↔ (mem_state old).left_since t c n
+  pub fresh : (mem_state new).fresh ≡ (mem_state old).fresh
+  pub faults : (mem_state new).faults ≡ (mem_state old).faults
+  pub written : (mem_state new).written ≡ (mem_state old).written
+  pub publishes : (mem_state new).publishes ≡ (mem_state old).publishes
+  pub fails : fail_list new ≡ fail_list old
+  pub next : next_call new ≡ next_call old
+  pub room : record_room new ≡ record_room old
+  pub left : record_left new ≡ record_left old
 
 -- a tell of the host around the disk: the mark moves on, and a crash in the call leaves one of the two marks
 pub record NotesTell {T E : Type 0} (old new : MemDisk) (count : ℕ) (result : Result T E) : Type 0 where
@@ -96,7 +185,7 @@ pub record NotesTell {T E : Type 0} (old new : MemDisk) (count : ℕ) (result : 
 
 -- what steps keep of a disk passes on from step to step
 pub mem_rest_same : (d : MemDisk) → MemRest d d
-mem_rest_same d = record { time = goes_same (mem_state d); fails = refl; room = refl }
+mem_rest_same d = record { time = goes_same (mem_state d); fails = refl; room = refl; stop = refl }
 
 pub mem_rest_then : (a b c : MemDisk) → MemRest a b → MemRest b c → MemRest a c
-mem_rest_then a b c ab bc = record { time = goes_then (mem_state a) (mem_state b) (mem_state c) (mem_moment c) ab.time bc.time; fails = cc (ab.fails, bc.fails); room = cc (ab.room, bc.room) }
+mem_rest_then a b c ab bc = record { time = goes_then (mem_state a) (mem_state b) (mem_state c) (mem_moment c) ab.time bc.time; fails = cc (ab.fails, bc.fails); room = cc (ab.room, bc.room); stop = cc (ab.stop, bc.stop) }

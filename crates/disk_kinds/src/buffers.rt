@@ -1,5 +1,6 @@
 // Memory that is taken at once.
-ghost use Rattle.std.specs.Prelude.{◌≡◌, ◌≤◌, [], IfOk, vec_capacity};
+ghost use Rattle.std.specs.Prelude.{◌≡◌, ◌≤◌, ◌+◌, [], IfOk, length, vec_len, vec_capacity};
+ghost use Rattle.base_core.specs.Landing.{written_at};
 
 use base_core::NoMemory;
 use std::alloc::Global;
@@ -21,4 +22,16 @@ pub(crate) fn copied<T: Copy>(alloc: Global, items: &[T]) -> Result<Vec<T>, NoMe
     let mut vector = with_room(alloc, items.len() as u64)?;
     let _ = vector.extend_from_slice(items);
     Ok(vector)
+}
+
+// Puts bytes at an offset that is in the buffer or at its end, which has room for them.
+pub(crate) fn overwrite(buffer: &mut Vec<u8>, at: usize, bytes: &[u8])
+    requires inside { at ≤ vec_len buffer.old }
+    requires room { at + length bytes.now ≤ vec_capacity buffer.old }
+    ensures items { buffer.new.items ≡ written_at at bytes.now buffer.old.items }
+    ensures capacity { vec_capacity buffer.old ≤ vec_capacity buffer.new }
+{
+    let count = bytes.len().min(buffer.len() - at);
+    buffer[at..at + count].copy_from_slice(&bytes[..count]);
+    let _ = buffer.extend_from_slice(&bytes[count..]);
 }

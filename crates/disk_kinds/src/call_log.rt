@@ -15,6 +15,14 @@ pub enum Event {
     Began,
     /// So many bytes were added to the new file.
     Appended(u64),
+    /// Bytes were written into the main file.
+    Wrote { at: u64, size: u64 },
+    /// Of a write of so many bytes the first, `made` of them, may have landed.
+    WritePending { at: u64, size: u64, made: u64 },
+    /// The main file was cut to so many bytes.
+    Cut(u64),
+    /// The main file may have been cut to so many bytes, or not.
+    CutPending(u64),
     /// The main file was synced.
     Synced,
     /// The new file took the main file's place.
@@ -30,8 +38,8 @@ pub enum Event {
 pub enum Admission {
     /// It does what it is to do.
     Served,
-    /// It fails by the list.
-    Listed,
+    /// It fails by the list, or since the stop is met.
+    Refused,
     /// It fails, since the record has no room for it.
     NoRoom,
 }
@@ -60,8 +68,8 @@ pub(crate) fn is_listed(fails: &[u64], number: u64) -> bool
 
 impl CallLog {
     ghost use Rattle.std.specs.Prelude.{[], IsErr};
-    ghost use Rattle.disk_kinds.specs.History.{step_of, new_extended, output};
-    ghost use Rattle.disk_kinds.specs.CallLog.{IsNewLog, SameBounds, NotesStep, Becomes, ReadsOnly, Refuses, IsListed, log_left, log_next};
+    ghost use Rattle.disk_kinds.specs.History.{step_of, output};
+    ghost use Rattle.disk_kinds.specs.CallLog.{IsNewLog, SameBounds, NotesStep, Becomes, ReadsOnly, Stops, Refuses, IsRefused, log_left, log_next};
 
     pub(crate) fn new(alloc: Global, room: u64, fails: &[u64]) -> Result<CallLog, NoMemory>
         ensures { IfOk result (λ log. IsNewLog log room fails.now) }
@@ -74,6 +82,12 @@ impl CallLog {
             faults: 0,
             room,
         })
+    }
+
+    pub(crate) fn room(&self) -> u64
+        ensures { result ≡ self.now.room }
+    {
+        self.room
     }
 
     pub(crate) fn faults(&self) -> u64
@@ -99,36 +113,46 @@ impl CallLog {
         self.events.push_reserved(event);
     }
 
-    // Notes bytes that are added to the new file.
-    fn note_bytes(&mut self, bytes: &[u8])
+    // Notes an event with its bytes.
+    fn note_bytes(&mut self, event: Event, bytes: &[u8])
         requires room { 64 + length bytes.now ≤ log_left self.old }
-        ensures { NotesStep (new_extended bytes.now) (64 + length bytes.now) self.old self.new }
+        requires own { size_of event ≡ length bytes.now }
+        ensures { NotesStep (step_of event bytes.now) (64 + length bytes.now) self.old self.new }
     {
         let _ = self.bytes.extend_from_slice(bytes);
-        self.events
-            .push_reserved(Event::Appended(bytes.len() as u64));
+        self.events.push_reserved(event);
     }
 
     /// Counts a call that only reads.
-    pub(crate) fn count_read(&mut self) -> Result<(), Failed>
-        ensures exactly { IsErr result ↔ IsListed self.old }
+    pub(crate) fn count_read(&mut self, is_stopped: bool) -> Result<(), Failed>
+        ensures exactly { IsErr result ↔ IsRefused self.old is_stopped }
         ensures next { self.new.calls ≡ log_next self.old }
         ensures bounds { SameBounds self.old self.new }
         ensures reads { ReadsOnly self.old self.new result }
     {
         self.calls = self.calls.saturating_add(1);
-        if is_listed(&self.fails, self.calls) {
+        if is_stopped || is_listed(&self.fails, self.calls) {
             self.faults = self.faults.saturating_add(1);
             return Err(Failed);
         }
         Ok(())
     }
 
-    /// Counts a call, and notes what it does, or what it does where it fails by the list.
-    pub(crate) fn call(&mut self, done: Event, failed: Event) -> Admission
+    /// Counts a call that finds no room elsewhere.
+    pub(crate) fn count_lacking(&mut self)
+        ensures refuses { Refuses self.old self.new }
+        ensures next { self.new.calls ≡ log_next self.old }
+        ensures bounds { SameBounds self.old self.new }
+    {
+        self.calls = self.calls.saturating_add(1);
+        self.faults = self.faults.saturating_add(1);
+    }
+
+    /// Counts a call, and notes what it does, or what it does where it fails by the list or the stop.
+    pub(crate) fn call(&mut self, done: Event, failed: Event, is_stopped: bool) -> Admission
         requires done { size_of done ≡ 0 }
         requires failed { size_of failed ≡ 0 }
-        ensures becomes { Becomes (IsListed self.old) (step_of done []) (step_of failed []) 64 self.old self.new result }
+        ensures becomes { Becomes (IsRefused self.old is_stopped) (step_of done []) (step_of failed []) 64 self.old self.new result }
         ensures next { self.new.calls ≡ log_next self.old }
         ensures bounds { SameBounds self.old self.new }
     {
@@ -137,18 +161,33 @@ impl CallLog {
             self.faults = self.faults.saturating_add(1);
             return Admission::NoRoom;
         }
-        if is_listed(&self.fails, self.calls) {
+        if is_stopped || is_listed(&self.fails, self.calls) {
             self.note(failed);
             self.faults = self.faults.saturating_add(1);
-            return Admission::Listed;
+            return Admission::Refused;
         }
         self.note(done);
         Admission::Served
     }
 
-    /// Counts a call that adds bytes to the new file. They are noted where it fails by the list too.
-    pub(crate) fn call_with_bytes(&mut self, bytes: &[u8]) -> Admission
-        ensures becomes { Becomes (IsListed self.old) (new_extended bytes.now) (new_extended bytes.now) (64 + length bytes.now) self.old self.new result }
+    /// Counts a call after the stop.
+    pub(crate) fn call_stopped(&mut self)
+        ensures stops { Stops self.old self.new }
+        ensures next { self.new.calls ≡ log_next self.old }
+        ensures bounds { SameBounds self.old self.new }
+    {
+        self.calls = self.calls.saturating_add(1);
+        self.faults = self.faults.saturating_add(1);
+        if self.has_room(0) {
+            self.note(Event::Kept);
+        }
+    }
+
+    /// Counts a call as [`call`](CallLog::call) does, whose two events have these bytes for their own.
+    pub(crate) fn call_with_bytes(&mut self, done: Event, failed: Event, is_stopped: bool, bytes: &[u8]) -> Admission
+        requires done { size_of done ≡ length bytes.now }
+        requires failed { size_of failed ≡ length bytes.now }
+        ensures becomes { Becomes (IsRefused self.old is_stopped) (step_of done bytes.now) (step_of failed bytes.now) (64 + length bytes.now) self.old self.new result }
         ensures next { self.new.calls ≡ log_next self.old }
         ensures bounds { SameBounds self.old self.new }
     {
@@ -157,17 +196,18 @@ impl CallLog {
             self.faults = self.faults.saturating_add(1);
             return Admission::NoRoom;
         }
-        self.note_bytes(bytes);
-        if is_listed(&self.fails, self.calls) {
+        if is_stopped || is_listed(&self.fails, self.calls) {
+            self.note_bytes(failed, bytes);
             self.faults = self.faults.saturating_add(1);
-            return Admission::Listed;
+            return Admission::Refused;
         }
+        self.note_bytes(done, bytes);
         Admission::Served
     }
 
-    /// Notes that a host around the disk tells so many bytes, or none where its list has the tell.
-    pub(crate) fn tell(&mut self, count: u64, listed: bool) -> Admission
-        ensures becomes { Becomes (IsTrue listed) (output count) (output 0) 64 self.old self.new result }
+    /// Notes that a host around the disk tells so many bytes, or none where its list or the stop refuses the tell.
+    pub(crate) fn tell(&mut self, count: u64, is_refused: bool) -> Admission
+        ensures becomes { Becomes (IsTrue is_refused) (output count) (output 0) 64 self.old self.new result }
         ensures calls { self.new.calls ≡ self.old.calls }
         ensures bounds { SameBounds self.old self.new }
     {
@@ -175,10 +215,10 @@ impl CallLog {
             self.faults = self.faults.saturating_add(1);
             return Admission::NoRoom;
         }
-        if listed {
+        if is_refused {
             self.note(Event::Told(0));
             self.faults = self.faults.saturating_add(1);
-            return Admission::Listed;
+            return Admission::Refused;
         }
         self.note(Event::Told(count));
         Admission::Served
@@ -187,6 +227,7 @@ impl CallLog {
     /// Counts a failure of the host around the disk.
     pub(crate) fn refuse(&mut self)
         ensures refuses { Refuses self.old self.new }
+        ensures calls { self.new.calls ≡ self.old.calls }
         ensures bounds { SameBounds self.old self.new }
     {
         self.faults = self.faults.saturating_add(1);

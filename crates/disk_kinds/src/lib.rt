@@ -6,6 +6,8 @@ mod call_log;
 mod faults;
 mod file;
 mod file_host;
+mod landings;
+mod lines;
 mod mem_host;
 mod memory;
 mod real;

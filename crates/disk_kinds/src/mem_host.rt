@@ -11,9 +11,9 @@ use std::alloc::Global;
 /// a list of the tells that are to fail.
 ///
 /// The calls of `tell` count from 1, apart from those of the disk. A tell fails exactly where its number
-/// is on the list, the disk's record has fewer than 64 bytes left, or its bytes find no room. It takes
-/// 64 bytes of the disk's record, also where it is on the list, and none where room lacks. A tell that
-/// failed has told no byte.
+/// is on the list, the disk's stop is met, the disk's record has fewer than 64 bytes left, or its bytes
+/// find no room. It takes 64 bytes of the disk's record, also where it is on the list or after the stop,
+/// and none where room lacks. A tell that failed has told no byte.
 #[derive(Drop)]
 pub struct MemHost {
     disk: MemDisk,
@@ -92,8 +92,9 @@ impl Disk for MemHost {
     ghost use Rattle.std.specs.Prelude.{◌≡◌, ◌↔◌, ◌+◌, ◌<◌, ◌^◌, ◌-◌, ℕ, min, length, take, drop, List, Some, None, IsSome, IsErr, IfOk, OnOk, OnErr};
     ghost use Rattle.base_core.specs.Causes.{HasCause};
     ghost use Rattle.base_core.specs.CrashImages.{Image, KeepsMain};
-    ghost use Rattle.base_core.specs.DiskCalls.{DiskCall, IsLength, HasByteAt, begun, appended, synced, IsWhole, Syncs, Publishes};
-    ghost use Rattle.disk_kinds.specs.Memory.{mem_moment, CannotServe, CountsCall, PublishPends};
+    ghost use Rattle.base_core.specs.DiskCalls.{DiskCall, IsLength, HasByteAt, HasOffset, begun, appended, synced, IsWhole, Writes, Cuts, Syncs, Publishes};
+    ghost use Rattle.disk_kinds.specs.History.{line_count};
+    ghost use Rattle.disk_kinds.specs.Memory.{mem_moment, record_left, CannotServe, CannotLand, CannotWrite, HasLandingRoom, HasWriteRoom, CountsCall, Makes, WritePends, CutPends, PublishPends};
     ghost use Rattle.disk_kinds.specs.MemHost.{disk_of, host_state, HostDiskRest, host_disk_same, host_disk_then};
 
     ghost state = { host_state };
@@ -110,7 +111,7 @@ impl Disk for MemHost {
 
     fn length(&mut self) -> Result<Option<u64>, Failed>
         ensures exactly { IsErr result ↔ CannotServe (disk_of self.old) 0 }
-        ensures counts { CountsCall (disk_of self.old) (disk_of self.new) 0 }
+        ensures counts { CountsCall (disk_of self.old) (disk_of self.new) Unit 0 }
         ensures length { IfOk result (λ length. (main : Image) → (host_state self.old).reads ≡ Some main → IsLength main length) }
         ensures main { KeepsMain (host_state self.old) (host_state self.new) }
         ensures fresh { (host_state self.new).fresh ≡ (host_state self.old).fresh }
@@ -124,7 +125,7 @@ impl Disk for MemHost {
     fn read_at(&mut self, at: u64, into: &mut [u8]) -> Result<usize, Failed>
         requires { IsSome (host_state self.old).reads → HasByteAt (host_state self.old).reads at }
         ensures exactly { IsErr result ↔ CannotServe (disk_of self.old) 0 }
-        ensures counts { CountsCall (disk_of self.old) (disk_of self.new) 0 }
+        ensures counts { CountsCall (disk_of self.old) (disk_of self.new) Unit 0 }
         ensures bytes { IfOk result (λ count. (b : List ℕ) → (host_state self.old).reads ≡ Some (Some b) → take count into.new ≡ take count (drop at b)) }
         ensures bound { IfOk result (λ count. (count ≤ length into.new) × (0 < length into.new → 0 < count)) }
         ensures main { KeepsMain (host_state self.old) (host_state self.new) }
@@ -136,10 +137,39 @@ impl Disk for MemHost {
         self.disk.read_at(at, into)
     }
 
+    fn write_at(&mut self, at: u64, bytes: &[u8]) -> Result<(), Failed>
+        requires { IsSome (host_state self.old).reads → HasOffset (host_state self.old).reads at }
+        ensures exactly { IsErr result ↔ CannotWrite (disk_of self.old) at (length bytes.now) }
+        ensures counts { CountsCall (disk_of self.old) (disk_of self.new) (HasWriteRoom (disk_of self.old) at (length bytes.now)) (64 + length bytes.now) }
+        ensures write { Writes at bytes.now (host_state self.old) (host_state self.new) result }
+        ensures written { (host_state self.new).written ≡ min ((host_state self.old).written + length bytes.now) (2 ^ 64 - 1) }
+        ensures landings { Makes (disk_of self.old) (disk_of self.new) (HasWriteRoom (disk_of self.old) at (length bytes.now)) (line_count at (length bytes.now)) }
+        ensures pends { OnErr result (WritePends (disk_of self.old) (disk_of self.new) at bytes.now) }
+        ensures call { DiskCall (host_state self.old) (host_state self.new) }
+        ensures cause { HasCause (host_state self.old).faults (host_state self.new).faults result }
+        ensures rest { HostDiskRest self.old self.new }
+    {
+        self.disk.write_at(at, bytes)
+    }
+
+    fn cut(&mut self, length: u64) -> Result<(), Failed>
+        requires { IsSome (host_state self.old).reads → HasOffset (host_state self.old).reads length }
+        ensures exactly { IsErr result ↔ CannotLand (disk_of self.old) }
+        ensures counts { CountsCall (disk_of self.old) (disk_of self.new) (HasLandingRoom (disk_of self.old)) 64 }
+        ensures cut { Cuts length (host_state self.old) (host_state self.new) result }
+        ensures landings { Makes (disk_of self.old) (disk_of self.new) (HasLandingRoom (disk_of self.old)) 1 }
+        ensures pends { OnErr result (CutPends (disk_of self.old) (disk_of self.new) length) }
+        ensures call { DiskCall (host_state self.old) (host_state self.new) }
+        ensures cause { HasCause (host_state self.old).faults (host_state self.new).faults result }
+        ensures rest { HostDiskRest self.old self.new }
+    {
+        self.disk.cut(length)
+    }
+
     fn sync(&mut self) -> Result<(), Failed>
         requires { (host_state self.old).reads ≡ Some None → ⊥ }
         ensures exactly { IsErr result ↔ CannotServe (disk_of self.old) 64 }
-        ensures counts { CountsCall (disk_of self.old) (disk_of self.new) 64 }
+        ensures counts { CountsCall (disk_of self.old) (disk_of self.new) (64 ≤ record_left (disk_of self.old)) 64 }
         ensures sync { Syncs (host_state self.old) (host_state self.new) result }
         ensures failed { OnErr result (KeepsMain (host_state self.old) (host_state self.new)) }
         ensures call { DiskCall (host_state self.old) (host_state self.new) }
@@ -151,7 +181,7 @@ impl Disk for MemHost {
 
     fn new_start(&mut self) -> Result<(), Failed>
         ensures exactly { IsErr result ↔ CannotServe (disk_of self.old) 64 }
-        ensures counts { CountsCall (disk_of self.old) (disk_of self.new) 64 }
+        ensures counts { CountsCall (disk_of self.old) (disk_of self.new) (64 ≤ record_left (disk_of self.old)) 64 }
         ensures started { OnOk result ((host_state self.new).fresh ≡ Some begun) }
         ensures failed { OnErr result ((host_state self.new).fresh ≡ None) }
         ensures main { KeepsMain (host_state self.old) (host_state self.new) }
@@ -165,7 +195,7 @@ impl Disk for MemHost {
     fn new_write(&mut self, bytes: &[u8]) -> Result<(), Failed>
         requires { IsSome (host_state self.old).reads → IsSome (host_state self.old).fresh }
         ensures exactly { IsErr result ↔ CannotServe (disk_of self.old) (64 + length bytes.now) }
-        ensures counts { CountsCall (disk_of self.old) (disk_of self.new) (64 + length bytes.now) }
+        ensures counts { CountsCall (disk_of self.old) (disk_of self.new) (64 + length bytes.now ≤ record_left (disk_of self.old)) (64 + length bytes.now) }
         ensures written { OnOk result ((host_state self.new).fresh ≡ option_map (λ f. appended f bytes.now) (host_state self.old).fresh) }
         ensures failed { OnErr result ((host_state self.new).fresh ≡ None) }
         ensures main { KeepsMain (host_state self.old) (host_state self.new) }
@@ -179,7 +209,7 @@ impl Disk for MemHost {
     fn new_sync(&mut self) -> Result<(), Failed>
         requires { IsSome (host_state self.old).reads → IsSome (host_state self.old).fresh }
         ensures exactly { IsErr result ↔ CannotServe (disk_of self.old) 64 }
-        ensures counts { CountsCall (disk_of self.old) (disk_of self.new) 64 }
+        ensures counts { CountsCall (disk_of self.old) (disk_of self.new) (64 ≤ record_left (disk_of self.old)) 64 }
         ensures synced { OnOk result ((host_state self.new).fresh ≡ option_map synced (host_state self.old).fresh) }
         ensures failed { OnErr result ((host_state self.new).fresh ≡ None) }
         ensures main { KeepsMain (host_state self.old) (host_state self.new) }
@@ -192,11 +222,12 @@ impl Disk for MemHost {
 
     fn publish(&mut self) -> Result<(), Failed>
         requires { IsSome (host_state self.old).reads → IsWhole (host_state self.old).fresh }
-        ensures exactly { IsErr result ↔ CannotServe (disk_of self.old) 64 }
-        ensures counts { CountsCall (disk_of self.old) (disk_of self.new) 64 }
+        ensures exactly { IsErr result ↔ CannotLand (disk_of self.old) }
+        ensures counts { CountsCall (disk_of self.old) (disk_of self.new) (HasLandingRoom (disk_of self.old)) 64 }
         ensures publish { Publishes (host_state self.old) (host_state self.new) result }
         ensures publishes { (host_state self.new).publishes ≡ min ((host_state self.old).publishes + 1) (2 ^ 64 - 1) }
         ensures pends { OnErr result (PublishPends (disk_of self.old) (disk_of self.new)) }
+        ensures landings { Makes (disk_of self.old) (disk_of self.new) (HasLandingRoom (disk_of self.old)) 1 }
         ensures call { DiskCall (host_state self.old) (host_state self.new) }
         ensures cause { HasCause (host_state self.old).faults (host_state self.new).faults result }
         ensures rest { HostDiskRest self.old self.new }

@@ -1,10 +1,12 @@
 // A disk in memory. It keeps a record of its calls, by which its past is told.
-ghost use Rattle.std.specs.Prelude.{◌≡◌, ◌+◌, ◌≤◌, vec_len, vec_capacity};
+ghost use Rattle.std.specs.Prelude.{◌≡◌, ◌+◌, ◌*◌, ◌≤◌, vec_len, vec_capacity};
 ghost use Rattle.disk_kinds.specs.CallLog.{log_left, log_steps};
-ghost use Rattle.disk_kinds.specs.History.{first_moment, moment_after, start_image, image_of};
+ghost use Rattle.disk_kinds.specs.History.{first_moment, moment_after, start_image, image_of, landing_count};
 
-use crate::buffers::{copied, with_room};
+use crate::buffers::{copied, overwrite, with_room};
 use crate::call_log::{Admission, CallLog, Event};
+use crate::landings::Landings;
+use crate::lines::{first_bytes, line_count};
 use base_core::{Disk, Failed, NoMemory};
 use std::alloc::Global;
 use std::mem;
@@ -33,10 +35,15 @@ pub enum NewFile {
 
 /// A disk in memory, which takes all its memory at once and has a list of the calls that are to fail.
 ///
-/// The calls of `Disk` count from 1. A call answers `Failed` exactly where its number is on the list
-/// or its record of calls has no room for it. In the record `length` and `read_at` take nothing; every
-/// other call takes 64 bytes, and `new_write` its own bytes besides. A call on the list takes its room
-/// as any other does; a call without room takes none.
+/// The calls of `Disk` count from 1. A call answers `Failed` exactly where its number is on the list, the
+/// stop is met, or there is no room for it. In the record `length` and `read_at` take nothing; every other
+/// call takes 64 bytes, and `write_at` and `new_write` their own bytes besides. What is pending takes 64
+/// bytes for each line that a `write_at` touches, and for each `cut`; a `publish`, which may fail, needs so
+/// much too. A call on the list or after the stop takes its room as any other does; a call without room
+/// takes none.
+///
+/// A landing is one line touched by a `write_at`, one `cut` or one `publish`. A call that fails by the list
+/// makes its landings, and one at which the stop comes those before it, but the file reads as before.
 #[derive(Drop)]
 pub struct MemDisk {
     start: Option<Vec<u8>>,
@@ -45,11 +52,17 @@ pub struct MemDisk {
     new_bytes: Vec<u8>,
     new_file: NewFile,
     log: CallLog,
+    landings: Landings,
     written: u64,
     publishes: u64,
     ghost main_is: { image_of has_main main.items ≡ (moment_after (first_moment (start_image start)) (log_steps log)).reads },
     ghost new_is: { new_bytes.items ≡ (moment_after (first_moment (start_image start)) (log_steps log)).new_bytes },
     ghost new_fits: { vec_len new_bytes + log_left log ≤ log.room },
+    ghost made_is: { landings.made ≡ (moment_after (first_moment (start_image start)) (log_steps log)).landings },
+    ghost pending_is: { landings.pending ≡ landing_count (moment_after (first_moment (start_image start)) (log_steps log)).pending },
+    ghost made_fits: { 32 * landings.made + log_left log ≤ log.room },
+    ghost pending_fits: { 64 * landings.pending ≤ log.room },
+    ghost main_fits: { vec_len main ≤ log.room },
     ghost main_room: { log.room ≤ vec_capacity main },
     ghost new_room: { log.room ≤ vec_capacity new_bytes },
 }
@@ -58,7 +71,7 @@ impl MemDisk {
     ghost use Rattle.std.specs.Prelude.{Some, None, IfOk};
     ghost use Rattle.base_core.specs.CrashImages.{IsDurable};
     ghost use Rattle.disk_kinds.specs.History.{FitsIn, given_image};
-    ghost use Rattle.disk_kinds.specs.Memory.{mem_state, fail_list, next_call, record_room, record_left};
+    ghost use Rattle.disk_kinds.specs.Memory.{mem_state, fail_list, next_call, record_room, record_left, landings_made, landings_pending, stop_of, SameButStop};
 
     /// A disk with this main file, all of it synced. It takes `room` bytes for each of its buffers, and
     /// the calls with the numbers `fails` are to fail.
@@ -76,6 +89,7 @@ impl MemDisk {
         ensures counts { IfOk result (λ d. ((mem_state d).faults ≡ 0) × ((mem_state d).written ≡ 0) × ((mem_state d).publishes ≡ 0)) }
         ensures fails { IfOk result (λ d. (fail_list d ≡ fails.now) × (next_call d ≡ 1)) }
         ensures room { IfOk result (λ d. (record_room d ≡ room) × (record_left d ≡ room)) }
+        ensures landings { IfOk result (λ d. (landings_made d ≡ 0) × (landings_pending d ≡ 0) × (stop_of d ≡ None)) }
     {
         let log = CallLog::new(alloc, room, fails)?;
         let new_bytes = with_room(alloc, room)?;
@@ -94,6 +108,7 @@ impl MemDisk {
             new_bytes,
             new_file: NewFile::Absent,
             log,
+            landings: Landings::new(),
             written: 0,
             publishes: 0,
         })
@@ -108,6 +123,21 @@ impl MemDisk {
         } else {
             None
         }
+    }
+
+    /// How many landings were made.
+    pub fn landings(&self) -> u64
+        ensures { result ≡ landings_made self.now }
+    {
+        self.landings.made
+    }
+
+    /// Once so many landings were made, every later call fails, the tells of a host around the disk included.
+    pub fn stop_after(&mut self, landings: u64)
+        ensures stop { stop_of self.new ≡ Some landings }
+        ensures same { SameButStop self.old self.new }
+    {
+        self.landings.stop = Some(landings);
     }
 
     /// The counts of the disk.
@@ -129,8 +159,9 @@ impl Disk for MemDisk {
     ghost use Rattle.std.specs.Prelude.{◌↔◌, ◌<◌, ◌^◌, ◌-◌, ℕ, min, length, take, drop, List, Some, None, IsSome, IsErr, IfOk, OnOk, OnErr};
     ghost use Rattle.base_core.specs.Causes.{HasCause};
     ghost use Rattle.base_core.specs.CrashImages.{Image, KeepsMain};
-    ghost use Rattle.base_core.specs.DiskCalls.{DiskCall, IsLength, HasByteAt, begun, appended, synced, IsWhole, Syncs, Publishes};
-    ghost use Rattle.disk_kinds.specs.Memory.{mem_state, mem_moment, MemRest, mem_rest_same, mem_rest_then, CannotServe, CountsCall, PublishPends};
+    ghost use Rattle.base_core.specs.DiskCalls.{DiskCall, IsLength, HasByteAt, HasOffset, begun, appended, synced, IsWhole, Writes, Cuts, Syncs, Publishes};
+    ghost use Rattle.disk_kinds.specs.History.{line_count};
+    ghost use Rattle.disk_kinds.specs.Memory.{mem_state, mem_moment, MemRest, mem_rest_same, mem_rest_then, record_left, CannotServe, CannotLand, CannotWrite, HasLandingRoom, HasWriteRoom, CountsCall, Makes, WritePends, CutPends, PublishPends};
 
     ghost state = { mem_state };
 
@@ -146,7 +177,7 @@ impl Disk for MemDisk {
 
     fn length(&mut self) -> Result<Option<u64>, Failed>
         ensures exactly { IsErr result ↔ CannotServe self.old 0 }
-        ensures counts { CountsCall self.old self.new 0 }
+        ensures counts { CountsCall self.old self.new Unit 0 }
         ensures length { IfOk result (λ length. (main : Image) → (mem_state self.old).reads ≡ Some main → IsLength main length) }
         ensures main { KeepsMain (mem_state self.old) (mem_state self.new) }
         ensures fresh { (mem_state self.new).fresh ≡ (mem_state self.old).fresh }
@@ -154,7 +185,7 @@ impl Disk for MemDisk {
         ensures cause { HasCause (mem_state self.old).faults (mem_state self.new).faults result }
         ensures rest { MemRest self.old self.new }
     {
-        self.log.count_read()?;
+        self.log.count_read(self.landings.is_stopped(1))?;
         if self.has_main {
             Ok(Some(self.main.len() as u64))
         } else {
@@ -165,7 +196,7 @@ impl Disk for MemDisk {
     fn read_at(&mut self, at: u64, into: &mut [u8]) -> Result<usize, Failed>
         requires { IsSome (mem_state self.old).reads → HasByteAt (mem_state self.old).reads at }
         ensures exactly { IsErr result ↔ CannotServe self.old 0 }
-        ensures counts { CountsCall self.old self.new 0 }
+        ensures counts { CountsCall self.old self.new Unit 0 }
         ensures bytes { IfOk result (λ count. (b : List ℕ) → (mem_state self.old).reads ≡ Some (Some b) → take count into.new ≡ take count (drop at b)) }
         ensures bound { IfOk result (λ count. (count ≤ length into.new) × (0 < length into.new → 0 < count)) }
         ensures main { KeepsMain (mem_state self.old) (mem_state self.new) }
@@ -174,33 +205,110 @@ impl Disk for MemDisk {
         ensures cause { HasCause (mem_state self.old).faults (mem_state self.new).faults result }
         ensures rest { MemRest self.old self.new }
     {
-        self.log.count_read()?;
+        self.log.count_read(self.landings.is_stopped(1))?;
         let rest = &self.main[at as usize..];
         let count = rest.len().min(into.len());
         into[..count].copy_from_slice(&rest[..count]);
         Ok(count)
     }
 
+    fn write_at(&mut self, at: u64, bytes: &[u8]) -> Result<(), Failed>
+        requires { IsSome (mem_state self.old).reads → HasOffset (mem_state self.old).reads at }
+        ensures exactly { IsErr result ↔ CannotWrite self.old at (length bytes.now) }
+        ensures counts { CountsCall self.old self.new (HasWriteRoom self.old at (length bytes.now)) (64 + length bytes.now) }
+        ensures write { Writes at bytes.now (mem_state self.old) (mem_state self.new) result }
+        ensures written { (mem_state self.new).written ≡ min ((mem_state self.old).written + length bytes.now) (2 ^ 64 - 1) }
+        ensures landings { Makes self.old self.new (HasWriteRoom self.old at (length bytes.now)) (line_count at (length bytes.now)) }
+        ensures pends { OnErr result (WritePends self.old self.new at bytes.now) }
+        ensures call { DiskCall (mem_state self.old) (mem_state self.new) }
+        ensures cause { HasCause (mem_state self.old).faults (mem_state self.new).faults result }
+        ensures rest { MemRest self.old self.new }
+    {
+        let size = bytes.len() as u64;
+        self.written = self.written.saturating_add(size);
+        if size > self.log.room() - at || !self.landings.has_room(self.log.room(), line_count(at, size)) {
+            self.log.count_lacking();
+            return Err(Failed);
+        }
+        let lines = line_count(at, size);
+        let landed = self.landings.before_stop(lines);
+        let failed = Event::WritePending {
+            at,
+            size,
+            made: first_bytes(at, size, landed),
+        };
+        let is_stopped = self.landings.is_stopped(lines.max(1));
+        match self.log.call_with_bytes(Event::Wrote { at, size }, failed, is_stopped, bytes) {
+            Admission::Served => {
+                overwrite(&mut self.main, at as usize, bytes);
+                self.landings.add(lines);
+                Ok(())
+            }
+            Admission::Refused => {
+                self.landings.add(landed);
+                Err(Failed)
+            }
+            Admission::NoRoom => Err(Failed),
+        }
+    }
+
+    fn cut(&mut self, length: u64) -> Result<(), Failed>
+        requires { IsSome (mem_state self.old).reads → HasOffset (mem_state self.old).reads length }
+        ensures exactly { IsErr result ↔ CannotLand self.old }
+        ensures counts { CountsCall self.old self.new (HasLandingRoom self.old) 64 }
+        ensures cut { Cuts length (mem_state self.old) (mem_state self.new) result }
+        ensures landings { Makes self.old self.new (HasLandingRoom self.old) 1 }
+        ensures pends { OnErr result (CutPends self.old self.new length) }
+        ensures call { DiskCall (mem_state self.old) (mem_state self.new) }
+        ensures cause { HasCause (mem_state self.old).faults (mem_state self.new).faults result }
+        ensures rest { MemRest self.old self.new }
+    {
+        if !self.landings.has_room(self.log.room(), 1) {
+            self.log.count_lacking();
+            return Err(Failed);
+        }
+        if self.landings.is_stopped(1) {
+            self.log.call_stopped();
+            return Err(Failed);
+        }
+        match self.log.call(Event::Cut(length), Event::CutPending(length), false) {
+            Admission::Served => {
+                self.main.truncate(length as usize);
+                self.landings.add(1);
+                Ok(())
+            }
+            Admission::Refused => {
+                self.landings.add(1);
+                Err(Failed)
+            }
+            Admission::NoRoom => Err(Failed),
+        }
+    }
+
     fn sync(&mut self) -> Result<(), Failed>
         requires { (mem_state self.old).reads ≡ Some None → ⊥ }
         ensures exactly { IsErr result ↔ CannotServe self.old 64 }
-        ensures counts { CountsCall self.old self.new 64 }
+        ensures counts { CountsCall self.old self.new (64 ≤ record_left self.old) 64 }
         ensures sync { Syncs (mem_state self.old) (mem_state self.new) result }
         ensures failed { OnErr result (KeepsMain (mem_state self.old) (mem_state self.new)) }
         ensures call { DiskCall (mem_state self.old) (mem_state self.new) }
         ensures cause { HasCause (mem_state self.old).faults (mem_state self.new).faults result }
         ensures rest { MemRest self.old self.new }
     {
-        match self.log.call(Event::Synced, Event::Kept) {
-            Admission::Served => Ok(()),
-            Admission::Listed => Err(Failed),
+        let is_stopped = self.landings.is_stopped(1);
+        match self.log.call(Event::Synced, Event::Kept, is_stopped) {
+            Admission::Served => {
+                self.landings.settle();
+                Ok(())
+            }
+            Admission::Refused => Err(Failed),
             Admission::NoRoom => Err(Failed),
         }
     }
 
     fn new_start(&mut self) -> Result<(), Failed>
         ensures exactly { IsErr result ↔ CannotServe self.old 64 }
-        ensures counts { CountsCall self.old self.new 64 }
+        ensures counts { CountsCall self.old self.new (64 ≤ record_left self.old) 64 }
         ensures started { OnOk result ((mem_state self.new).fresh ≡ Some begun) }
         ensures failed { OnErr result ((mem_state self.new).fresh ≡ None) }
         ensures main { KeepsMain (mem_state self.old) (mem_state self.new) }
@@ -209,13 +317,14 @@ impl Disk for MemDisk {
         ensures rest { MemRest self.old self.new }
     {
         self.new_file = NewFile::Absent;
-        match self.log.call(Event::Began, Event::Began) {
+        let is_stopped = self.landings.is_stopped(1);
+        match self.log.call(Event::Began, Event::Began, is_stopped) {
             Admission::Served => {
                 self.new_bytes.clear();
                 self.new_file = NewFile::Begun;
                 Ok(())
             }
-            Admission::Listed => {
+            Admission::Refused => {
                 self.new_bytes.clear();
                 Err(Failed)
             }
@@ -226,7 +335,7 @@ impl Disk for MemDisk {
     fn new_write(&mut self, bytes: &[u8]) -> Result<(), Failed>
         requires { IsSome (mem_state self.old).reads → IsSome (mem_state self.old).fresh }
         ensures exactly { IsErr result ↔ CannotServe self.old (64 + length bytes.now) }
-        ensures counts { CountsCall self.old self.new (64 + length bytes.now) }
+        ensures counts { CountsCall self.old self.new (64 + length bytes.now ≤ record_left self.old) (64 + length bytes.now) }
         ensures written { OnOk result ((mem_state self.new).fresh ≡ option_map (λ f. appended f bytes.now) (mem_state self.old).fresh) }
         ensures failed { OnErr result ((mem_state self.new).fresh ≡ None) }
         ensures main { KeepsMain (mem_state self.old) (mem_state self.new) }
@@ -235,13 +344,15 @@ impl Disk for MemDisk {
         ensures rest { MemRest self.old self.new }
     {
         self.new_file = NewFile::Absent;
-        match self.log.call_with_bytes(bytes) {
+        let event = Event::Appended(bytes.len() as u64);
+        let is_stopped = self.landings.is_stopped(1);
+        match self.log.call_with_bytes(event, event, is_stopped, bytes) {
             Admission::Served => {
                 let _ = self.new_bytes.extend_from_slice(bytes);
                 self.new_file = NewFile::Begun;
                 Ok(())
             }
-            Admission::Listed => {
+            Admission::Refused => {
                 let _ = self.new_bytes.extend_from_slice(bytes);
                 Err(Failed)
             }
@@ -252,7 +363,7 @@ impl Disk for MemDisk {
     fn new_sync(&mut self) -> Result<(), Failed>
         requires { IsSome (mem_state self.old).reads → IsSome (mem_state self.old).fresh }
         ensures exactly { IsErr result ↔ CannotServe self.old 64 }
-        ensures counts { CountsCall self.old self.new 64 }
+        ensures counts { CountsCall self.old self.new (64 ≤ record_left self.old) 64 }
         ensures synced { OnOk result ((mem_state self.new).fresh ≡ option_map synced (mem_state self.old).fresh) }
         ensures failed { OnErr result ((mem_state self.new).fresh ≡ None) }
         ensures main { KeepsMain (mem_state self.old) (mem_state self.new) }
@@ -261,57 +372,73 @@ impl Disk for MemDisk {
         ensures rest { MemRest self.old self.new }
     {
         self.new_file = NewFile::Absent;
-        match self.log.call(Event::Kept, Event::Kept) {
+        let is_stopped = self.landings.is_stopped(1);
+        match self.log.call(Event::Kept, Event::Kept, is_stopped) {
             Admission::Served => {
                 self.new_file = NewFile::Whole;
                 Ok(())
             }
-            Admission::Listed => Err(Failed),
+            Admission::Refused => Err(Failed),
             Admission::NoRoom => Err(Failed),
         }
     }
 
     fn publish(&mut self) -> Result<(), Failed>
         requires { IsSome (mem_state self.old).reads → IsWhole (mem_state self.old).fresh }
-        ensures exactly { IsErr result ↔ CannotServe self.old 64 }
-        ensures counts { CountsCall self.old self.new 64 }
+        ensures exactly { IsErr result ↔ CannotLand self.old }
+        ensures counts { CountsCall self.old self.new (HasLandingRoom self.old) 64 }
         ensures publish { Publishes (mem_state self.old) (mem_state self.new) result }
         ensures publishes { (mem_state self.new).publishes ≡ min ((mem_state self.old).publishes + 1) (2 ^ 64 - 1) }
         ensures pends { OnErr result (PublishPends self.old self.new) }
+        ensures landings { Makes self.old self.new (HasLandingRoom self.old) 1 }
         ensures call { DiskCall (mem_state self.old) (mem_state self.new) }
         ensures cause { HasCause (mem_state self.old).faults (mem_state self.new).faults result }
         ensures rest { MemRest self.old self.new }
     {
         self.new_file = NewFile::Absent;
         self.publishes = self.publishes.saturating_add(1);
-        match self.log.call(Event::Published, Event::PublishPending) {
+        if !self.landings.has_room(self.log.room(), 1) {
+            self.log.count_lacking();
+            return Err(Failed);
+        }
+        if self.landings.is_stopped(1) {
+            self.log.call_stopped();
+            return Err(Failed);
+        }
+        match self.log.call(Event::Published, Event::PublishPending, false) {
             Admission::Served => {
                 mem::swap(&mut self.main, &mut self.new_bytes);
                 self.new_bytes.clear();
                 self.has_main = true;
+                self.landings.add(1);
+                self.landings.settle();
                 Ok(())
             }
-            Admission::Listed => Err(Failed),
+            Admission::Refused => {
+                self.landings.add(1);
+                Err(Failed)
+            }
             Admission::NoRoom => Err(Failed),
         }
     }
 }
 
 impl MemDisk {
-    ghost use Rattle.std.specs.Prelude.{◌↔◌, ◌⊎◌, ◌<◌, IsTrue, IsErr};
+    ghost use Rattle.std.specs.Prelude.{◌↔◌, ◌⊎◌, ◌<◌, ◌≤◌, IsTrue, IsErr};
     ghost use Rattle.base_core.specs.Causes.{HasCause};
-    ghost use Rattle.disk_kinds.specs.Memory.{mem_state, record_left, Takes, NotesTell};
+    ghost use Rattle.disk_kinds.specs.Memory.{mem_state, record_left, IsStopped, Takes, NotesTell};
 
     // A tell of the host around the disk: it tells so many bytes, unless the host's list has it.
     pub(crate) fn note_tell(&mut self, count: u64, listed: bool) -> Result<(), Failed>
-        ensures exactly { IsErr result ↔ (IsTrue listed ⊎ (record_left self.old < 64)) }
-        ensures takes { Takes self.old self.new 64 }
+        ensures exactly { IsErr result ↔ (IsTrue listed ⊎ IsStopped self.old 0 ⊎ (record_left self.old < 64)) }
+        ensures takes { Takes self.old self.new (64 ≤ record_left self.old) 64 }
         ensures tell { NotesTell self.old self.new count result }
         ensures cause { HasCause (mem_state self.old).faults (mem_state self.new).faults result }
     {
-        match self.log.tell(count, listed) {
+        let is_stopped = self.landings.is_stopped(1);
+        match self.log.tell(count, listed || is_stopped) {
             Admission::Served => Ok(()),
-            Admission::Listed => Err(Failed),
+            Admission::Refused => Err(Failed),
             Admission::NoRoom => Err(Failed),
         }
     }

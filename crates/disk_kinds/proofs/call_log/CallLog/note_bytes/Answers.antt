@@ -1,23 +1,22 @@
 use Rattle.std.proofs.Common.{◌≡◌, ◌++◌, ◌∷◌, [], ap, ◌∙◌, arith, rules, length, length-append}
 use Rattle.disk_kinds.specs.History.{total_size, steps_of}
-use Rattle.disk_kinds.specs.declared.call_log.Event.TheVariants.{Appended}
-use Rattle.disk_kinds.proofs.StepLemmas.{total_size-append, steps-bytes}
+use Rattle.disk_kinds.proofs.StepLemmas.{total_size-append, steps-append}
 use Rattle.disk_kinds.proofs.call_log.CallLog.note_bytes.Goals as goal
 
 pub invariant_of-self-clause-sizes : goal.invariant_of-self-clause-sizes
 invariant_of-self-clause-sizes c =
     let added : c.extend_from_slice.new.self.items ≡ c.args.self.now.bytes.items ++ c.args.bytes.now = search rules in
     ap total_size c.push_reserved.ensures.items
-    ∙ total_size-append c.args.self.now.events.items (Appended (length c.args.bytes.now))
-    ∙ omega (arith, c.args.self.now.sizes, ap length added, length-append c.args.self.now.bytes.items c.args.bytes.now)
+    ∙ total_size-append c.args.self.now.events.items c.args.event
+    ∙ omega (arith, c.requires.own, c.args.self.now.sizes, ap length added, length-append c.args.self.now.bytes.items c.args.bytes.now)
 
 pub returns : goal.returns
 returns c =
     let added : c.extend_from_slice.new.self.items ≡ c.args.self.now.bytes.items ++ c.args.bytes.now = search rules in
     record {
       steps = ap (λ l. steps_of l c.extend_from_slice.new.self.items) c.push_reserved.ensures.items
-          ∙ ap (λ l. steps_of (c.args.self.now.events.items ++ Appended (length c.args.bytes.now) ∷ []) l) added
-          ∙ steps-bytes c.args.self.now.events.items c.args.self.now.bytes.items c.args.bytes.now c.args.self.now.sizes;
+          ∙ ap (λ l. steps_of (c.args.self.now.events.items ++ c.args.event ∷ []) l) added
+          ∙ steps-append c.args.self.now.events.items c.args.event c.args.self.now.bytes.items c.args.bytes.now c.args.self.now.sizes c.requires.own;
       left = search rules;
       calls = search rules;
       faults = search rules;

@@ -14,20 +14,22 @@ returns-in-Served-clause-tell c = record {
     time = goes_one_more _ _ _ _ _ _ _ _ _ _ _ _ c.in-Served.ensures.becomes.steps (omega (arith, c.in-Served.ensures.becomes.faults)) (omega arith) (omega arith);
     fails = search rules;
     room = search rules;
+    stop = search rules;
   };
 }
 
-pub returns-in-Listed-clause-tell : goal.returns-in-Listed-clause-tell
-returns-in-Listed-clause-tell c = record {
+pub returns-in-Refused-clause-tell : goal.returns-in-Refused-clause-tell
+returns-in-Refused-clause-tell c = record {
   ok = search rules;
-  err = tell_marks _ _ _ _ c.in-Listed.ensures.becomes.steps ∙ add-zero _;
-  each = tell_one_more _ _ _ _ _ _ _ _ _ _ _ _ c.in-Listed.ensures.becomes.steps;
-  stands = λ same. absurd (clock_rises _ _ _ c.in-Listed.ensures.becomes.steps same);
-  keeps = tell_keeps _ _ _ _ _ _ _ _ _ c.in-Listed.ensures.becomes.steps;
+  err = tell_marks _ _ _ _ c.in-Refused.ensures.becomes.steps ∙ add-zero _;
+  each = tell_one_more _ _ _ _ _ _ _ _ _ _ _ _ c.in-Refused.ensures.becomes.steps;
+  stands = λ same. absurd (clock_rises _ _ _ c.in-Refused.ensures.becomes.steps same);
+  keeps = tell_keeps _ _ _ _ _ _ _ _ _ c.in-Refused.ensures.becomes.steps;
   next = search rules;
   rest = record {
-    time = goes_one_more _ _ _ _ _ _ _ _ _ _ _ _ c.in-Listed.ensures.becomes.steps c.in-Listed.ensures.becomes.fault.later (omega arith) (omega arith);
+    time = goes_one_more _ _ _ _ _ _ _ _ _ _ _ _ c.in-Refused.ensures.becomes.steps c.in-Refused.ensures.becomes.fault.later (omega arith) (omega arith);
     fails = search rules;
     room = search rules;
+    stop = search rules;
   };
 }

@@ -1,24 +1,20 @@
-use Rattle.std.proofs.Common.{arith, rules, refl}
-use Rattle.disk_kinds.proofs.Pending.{publish_pends}
-use Rattle.disk_kinds.proofs.Time.{goes_one_more, call_one_more}
+use Rattle.std.proofs.Common.{inl, refl, ap, ◌∙◌, arith, rules}
+use Rattle.disk_kinds.proofs.Calls.{rest_after}
+use Rattle.disk_kinds.proofs.Time.{call_one_more}
+use Rattle.disk_kinds.proofs.Writing.{publish_pends}
 use Rattle.disk_kinds.proofs.memory.MemDiskDisk.publish.Goals as goal
 
+pub returns-then-is_stopped-clause-rest : goal.returns-then-is_stopped-clause-rest
+returns-then-is_stopped-clause-rest c = rest_after _ _ _ refl c.call_stopped.ensures.stops.steps c.call_stopped.ensures.bounds refl c.call_stopped.ensures.stops.fault.later (omega arith) (omega arith)
+
 pub returns-in-Served-clause-rest : goal.returns-in-Served-clause-rest
-returns-in-Served-clause-rest c = record {
-  time = goes_one_more _ _ _ _ _ _ _ _ _ _ _ _ c.in-Served.ensures.becomes.steps (omega (arith, c.in-Served.ensures.becomes.faults)) (omega arith) (omega arith);
-  fails = search rules;
-  room = search rules;
-}
+returns-in-Served-clause-rest c = rest_after _ _ _ refl (inl c.in-Served.ensures.becomes.steps) c.in-Served.ensures.bounds (ap (λ l. l.stop) c.settle.ensures ∙ ap (λ l. l.stop) c.add.ensures) (omega (arith, c.in-Served.ensures.becomes.faults)) (omega arith) (omega arith)
 
-pub returns-in-Listed-clause-rest : goal.returns-in-Listed-clause-rest
-returns-in-Listed-clause-rest c = record {
-  time = goes_one_more _ _ _ _ _ _ _ _ _ _ _ _ c.in-Listed.ensures.becomes.steps c.in-Listed.ensures.becomes.fault.later (omega arith) (omega arith);
-  fails = search rules;
-  room = search rules;
-}
+pub returns-in-Refused-clause-rest : goal.returns-in-Refused-clause-rest
+returns-in-Refused-clause-rest c = rest_after _ _ _ refl (inl c.in-Refused.ensures.becomes.steps) c.in-Refused.ensures.bounds (ap (λ l. l.stop) c.add-in-Refused.ensures) c.in-Refused.ensures.becomes.fault.later (omega arith) (omega arith)
 
-pub returns-in-Listed-clause-call : goal.returns-in-Listed-clause-call
-returns-in-Listed-clause-call c = call_one_more _ _ _ _ _ _ _ _ _ _ _ _ c.in-Listed.ensures.becomes.steps refl
+pub returns-in-Refused-clause-call : goal.returns-in-Refused-clause-call
+returns-in-Refused-clause-call c = call_one_more _ _ _ _ _ _ _ _ _ _ _ _ c.in-Refused.ensures.becomes.steps refl
 
-pub returns-in-Listed-clause-pends : goal.returns-in-Listed-clause-pends
-returns-in-Listed-clause-pends c = publish_pends _ _ refl c.in-Listed.ensures.becomes.steps
+pub returns-in-Refused-clause-pends : goal.returns-in-Refused-clause-pends
+returns-in-Refused-clause-pends c = publish_pends _ _ refl c.in-Refused.ensures.becomes.steps (search rules) (search rules)

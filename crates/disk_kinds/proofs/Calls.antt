@@ -1,0 +1,20 @@
+-- Calls of a disk in memory that note one step.
+use Rattle.std.proofs.Common.{◌≡◌, ◌⊎◌, ℕ, ◌≤◌, List, ◌++◌, ◌∷◌, [], refl, sym, ◌∙◌, ap, subst}
+use Rattle.base_core.specs.CrashImages.{GoesOn}
+use Rattle.base_core.specs.DiskCalls.{DiskCall}
+use Rattle.disk_kinds.specs.History.{Step, Moment, moment_step, moment_after, first_moment, start_image, fresh_of}
+use Rattle.disk_kinds.specs.CallLog.{log_steps, SameBounds}
+use Rattle.disk_kinds.specs.Memory.{MemRest, mem_state, state_of, now_of, stop_of}
+use Rattle.disk_kinds.specs.declared.memory.MemDisk.{MemDisk}
+use Rattle.disk_kinds.proofs.Time.{goes_on, after_one, call_one_more}
+
+-- what the call keeps of a disk, where it notes this step or none
+pub rest_after : (old new : MemDisk) (step : Step) → new.start ≡ old.start → (log_steps new.log ≡ log_steps old.log ++ step ∷ []) ⊎ (log_steps new.log ≡ log_steps old.log)
+    → SameBounds old.log new.log → stop_of new ≡ stop_of old → old.log.faults ≤ new.log.faults → old.written ≤ new.written → old.publishes ≤ new.publishes → MemRest old new
+rest_after old new step start steps bounds stop faults written publishes = record {
+  time = subst (λ s. GoesOn (mem_state old) (state_of (first_moment (start_image s)) (log_steps new.log) (fresh_of new.new_file new.new_bytes.items) new.log.faults new.written new.publishes)) (sym start)
+      (goes_on (first_moment (start_image old.start)) (log_steps old.log) (log_steps new.log) step _ _ _ _ _ _ _ _ steps faults written publishes);
+  fails = bounds.fails;
+  room = bounds.room;
+  stop = stop;
+}
