@@ -1,22 +1,28 @@
--- What the real devices tell: how often they failed and published, and nothing of their contents.
+-- What the real devices tell: how often they failed and published, how much they wrote, and nothing of their contents.
 use Rattle.std.specs.Prelude.{ℕ, ◌+◌, ◌-◌, ◌^◌, min, None}
 use Rattle.base_core.specs.CrashImages.{DiskState, IsMoment}
 use Rattle.base_core.specs.HostCalls.{HostState}
 
--- how often a call of a real disk failed, and how often its new file was to take the main file's place
+-- how often a call of a real disk failed, how many bytes were passed to writes into its main file, and how often its
+-- new file was to take the main file's place
 pub record FileCounts : Type 0 where
   pub faults : ℕ
+  pub written : ℕ
   pub publishes : ℕ
 
 -- no call was made yet
 abbrev pub no_calls : FileCounts
-no_calls = record { faults = 0; publishes = 0 }
+no_calls = record { faults = 0; written = 0; publishes = 0 }
 
 -- the next count, which stands still at the greatest number of 64 bits
 abbrev pub next_count : ℕ → ℕ
 next_count count = min (count + 1) (2 ^ 64 - 1)
 
--- A real disk tells its counts, and nothing of what it reads or may leave. It writes nothing into its main file.
+-- the count after so many more, which stands still at the same number
+abbrev pub raised_by : ℕ → ℕ → ℕ
+raised_by more count = min (count + more) (2 ^ 64 - 1)
+
+-- A real disk tells its counts, and nothing of what it reads or may leave.
 abbrev pub untold : FileCounts → DiskState
 untold counts = record {
   reads = None;
@@ -26,7 +32,7 @@ untold counts = record {
   left_since = λ _ _ _. ⊥;
   fresh = None;
   faults = counts.faults;
-  written = 0;
+  written = counts.written;
   publishes = counts.publishes;
 }
 

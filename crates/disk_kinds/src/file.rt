@@ -1,10 +1,10 @@
 // A disk of two real files.
-ghost use Rattle.std.specs.Prelude.{◌≡◌};
+ghost use Rattle.std.specs.Prelude.{◌≡◌, length};
 ghost use Rattle.base_core.specs.Causes.{HasCause};
 ghost use Rattle.base_core.specs.CrashImages.{GoesOn};
-ghost use Rattle.base_core.specs.DiskCalls.{DiskCall, Publishes};
+ghost use Rattle.base_core.specs.DiskCalls.{DiskCall, Writes, Publishes};
 ghost use Rattle.base_core.specs.Time.{goes_same, goes_then};
-ghost use Rattle.disk_kinds.specs.Files.{next_count, no_calls, untold, untold_moment};
+ghost use Rattle.disk_kinds.specs.Files.{next_count, raised_by, no_calls, untold, untold_moment};
 
 use crate::faults::counted;
 use crate::real::{MainFile, NewFile};
@@ -20,10 +20,10 @@ use std::rt::Files;
 /// Only a path where nothing is counts as absent. Each of these is a fault: what is at the path and no regular file,
 /// a file that may not be read and written, one that ends before its told length, and want of memory.
 ///
-/// A link at the path is followed for reading, and `publish` puts a plain file in its place. The new file has the main
-/// file's permission bits, or those of any new file where there is none, and belongs to the user who runs the program.
-/// What stands at its name before is removed, or is a fault if it is a folder; a new file that was not published stays.
-/// `sync` and `publish` cover the folder of the path, so that the name is on the disk too.
+/// A link at the path is followed for reading, writing and cutting, and `publish` puts a plain file in its place. The
+/// new file has the main file's permission bits, or those of any new file where there is none, and belongs to the user
+/// who runs the program. What stands at its name before is removed, or is a fault if it is a folder; a new file that was
+/// not published stays. `sync` and `publish` cover the folder of the path, so that the name is on the disk too.
 ///
 /// Nothing here is proved of the files themselves: the contract speaks of the counts alone.
 #[derive(Drop)]
@@ -33,6 +33,7 @@ pub struct FileDisk<R: Files + AllocGlobal + Drop> {
     main: MainFile<R>,
     fresh: Option<NewFile<R>>,
     pub(crate) faults: u64,
+    written: u64,
     publishes: u64,
 }
 
@@ -41,7 +42,7 @@ impl<R: Files + AllocGlobal + Drop> Model for FileDisk<R> {
 
     ghost Value = { FileCounts };
 
-    ghost view = { λ d. record { faults = d.faults; publishes = d.publishes } };
+    ghost view = { λ d. record { faults = d.faults; written = d.written; publishes = d.publishes } };
 }
 
 impl<R: Files + AllocGlobal + Drop> FileDisk<R> {
@@ -55,6 +56,7 @@ impl<R: Files + AllocGlobal + Drop> FileDisk<R> {
             main: MainFile::closed(),
             fresh: None,
             faults: 0,
+            written: 0,
             publishes: 0,
         }
     }
@@ -86,6 +88,26 @@ where
             return Ok(0);
         }
         let answer = self.main.read_at(&self.rt, self.path.as_str(), at, into);
+        counted(&mut self.faults, answer)
+    }
+
+    fn write_at(&mut self, at: u64, bytes: &[u8]) -> Result<(), Failed>
+        ensures write { Writes at bytes.now (untold self.old) (untold self.new) result }
+        ensures count { self.new.written ≡ raised_by (length bytes.now) self.old.written }
+        ensures call { DiskCall (untold self.old) (untold self.new) }
+        ensures cause { HasCause self.old.faults self.new.faults result }
+        ensures rest { GoesOn (untold self.old) (untold self.new) }
+    {
+        self.written = self.written.saturating_add(bytes.len() as u64);
+        if bytes.is_empty() {
+            return Ok(());
+        }
+        let answer = self.main.write_at(&self.rt, self.path.as_str(), at, bytes);
+        counted(&mut self.faults, answer)
+    }
+
+    fn cut(&mut self, length: u64) -> Result<(), Failed> {
+        let answer = self.main.cut(&self.rt, self.path.as_str(), length);
         counted(&mut self.faults, answer)
     }
 

@@ -1,11 +1,11 @@
 // A host of two real files and the standard streams.
-ghost use Rattle.std.specs.Prelude.{◌≡◌};
+ghost use Rattle.std.specs.Prelude.{◌≡◌, length};
 ghost use Rattle.std.proofs.Common.{refl, ap, ◌∙◌};
 ghost use Rattle.base_core.specs.Causes.{HasCause};
 ghost use Rattle.base_core.specs.CrashImages.{GoesOn};
-ghost use Rattle.base_core.specs.DiskCalls.{DiskCall, Publishes};
+ghost use Rattle.base_core.specs.DiskCalls.{DiskCall, Writes, Publishes};
 ghost use Rattle.base_core.specs.Time.{goes_same, goes_then};
-ghost use Rattle.disk_kinds.specs.Files.{next_count, no_calls, untold, untold_moment, untold_streams};
+ghost use Rattle.disk_kinds.specs.Files.{next_count, raised_by, no_calls, untold, untold_moment, untold_streams};
 
 use crate::faults::counted;
 use crate::file::FileDisk;
@@ -69,6 +69,20 @@ where
 
     fn read_at(&mut self, at: u64, into: &mut [u8]) -> Result<usize, Failed> {
         self.disk.read_at(at, into)
+    }
+
+    fn write_at(&mut self, at: u64, bytes: &[u8]) -> Result<(), Failed>
+        ensures write { Writes at bytes.now (untold self.old.disk) (untold self.new.disk) result }
+        ensures count { self.new.disk.written ≡ raised_by (length bytes.now) self.old.disk.written }
+        ensures call { DiskCall (untold self.old.disk) (untold self.new.disk) }
+        ensures cause { HasCause self.old.disk.faults self.new.disk.faults result }
+        ensures rest { (self.new.tell_faults ≡ self.old.tell_faults) × GoesOn (untold self.old.disk) (untold self.new.disk) }
+    {
+        self.disk.write_at(at, bytes)
+    }
+
+    fn cut(&mut self, length: u64) -> Result<(), Failed> {
+        self.disk.cut(length)
     }
 
     fn sync(&mut self) -> Result<(), Failed> {

@@ -108,6 +108,32 @@ impl<R: Files> MainFile<R> {
         }
     }
 
+    /// Writes all the bytes. Where the file ends before the offset, zeros come to stand between; code that is generic
+    /// over `Disk` asks for no such offset.
+    pub(crate) fn write_at(&mut self, rt: &R, path: &str, at: u64, bytes: &[u8]) -> io::Result<()>
+    where
+        R::File: FileExt + AsRawFd,
+    {
+        self.open(rt, path)?;
+        match &self.file {
+            Some(file) => file.write_all_at(bytes, at),
+            None => Err(ErrorKind::NotFound.into()),
+        }
+    }
+
+    /// Cuts the file to its first bytes, so many. A shorter one gets zeros at its end; code that is generic over `Disk`
+    /// asks for no such length.
+    pub(crate) fn cut(&mut self, rt: &R, path: &str, length: u64) -> io::Result<()>
+    where
+        R::File: AsRawFd,
+    {
+        self.open(rt, path)?;
+        match &self.file {
+            Some(file) => file.set_len(length),
+            None => Err(ErrorKind::NotFound.into()),
+        }
+    }
+
     /// Puts the file's bytes and its name on the disk.
     pub(crate) fn sync(&mut self, rt: &R, path: &str) -> io::Result<()>
     where

@@ -55,6 +55,43 @@ fn disk_writes_and_reads(rt: HostRuntime) -> Result<(), Fail> {
     Ok(())
 }
 
+#[test]
+fn disk_writes_in_place_and_cuts(rt: HostRuntime) -> Result<(), Fail> {
+    begin(&rt, "place")?;
+    let mut disk = FileDisk::new(rt, Text::of(rt.alloc(), "place/db")?);
+    assert_eq!(rt; disk.write_at(0, b"x"), Err(Failed), "there is no file");
+    assert_eq!(rt; disk.cut(0), Err(Failed), "there is no file");
+    assert_eq!(rt; disk.write_at(0, &[]), Ok(()), "nothing is asked");
+    assert_eq!(rt; disk.length(), Ok(None), "none was made");
+    fs::write(&rt, "place/db", "hello\n")?;
+    fs::set_permissions(&rt, "place/db", Permissions::from_mode(0o640))?;
+    let writes = [
+        (1, "a", "hallo\n"),
+        (6, "world", "hallo\nworld"),
+        (9, "d and more\n", "hallo\nword and more\n"),
+        (20, "", "hallo\nword and more\n"),
+    ];
+    for (at, bytes, then) in writes {
+        assert_eq!(rt; disk.write_at(at, bytes.as_bytes()), Ok(()), "at {at}");
+        assert_file(&rt, "place/db", then, 0o640)?;
+    }
+    let cuts = [
+        (20, "hallo\nword and more\n", "hallo\nword and more\n."),
+        (10, "hallo\nword", "hallo\nword."),
+        (0, "", "."),
+    ];
+    for (length, then, after) in cuts {
+        assert_eq!(rt; disk.cut(length), Ok(()), "to {length}");
+        assert_file(&rt, "place/db", then, 0o640)?;
+        assert_eq!(rt; disk.write_at(length, b"."), Ok(()), "after {length}");
+        assert_file(&rt, "place/db", after, 0o640)?;
+    }
+    assert_eq!(rt; disk.sync(), Ok(()));
+    assert_eq!(rt; disk.length(), Ok(Some(1)));
+    fs::remove_dir_all(&rt, "place")?;
+    Ok(())
+}
+
 // A left-over new file, and another that is a link to the file `usual`.
 fn leave_files(rt: &(impl Files + Alloc)) -> io::Result<()> {
     begin(rt, "left")?;
@@ -130,5 +167,31 @@ fn host_rewrites_and_prints(rt: HostRuntime) -> Result<(), Fail> {
     assert_eq!(rt; host.tell(b"told \xff\n"), Ok(()));
     host.warn(b"warned \xff\n");
     fs::remove_dir_all(&rt, "prints")?;
+    Ok(())
+}
+
+#[test]
+fn host_writes_in_place_and_cuts(rt: HostRuntime) -> Result<(), Fail> {
+    begin(&rt, "spots")?;
+    fs::create_dir(&rt, "spots/folder")?;
+    for path in ["spots/folder", "/dev/null", "spots/missing"] {
+        let mut host = FileHost::new(rt, Text::of(rt.alloc(), path)?);
+        assert_eq!(rt; host.write_at(0, b"x"), Err(Failed), "{path}");
+        assert_eq!(rt; host.cut(0), Err(Failed), "{path}");
+    }
+    fs::write(&rt, "spots/db", "old")?;
+    let usual = mode_of(&rt, "spots/db")?;
+    let mut host = FileHost::new(rt, Text::of(rt.alloc(), "spots/db")?);
+    let beyond = 1 << 63;
+    assert_eq!(rt; host.write_at(beyond, b"x"), Err(Failed), "no such offset");
+    assert_eq!(rt; host.cut(beyond), Err(Failed), "no such length");
+    assert_file(&rt, "spots/db", "old", usual)?;
+    assert_eq!(rt; rewrite(&mut host, b"0123456789"), Ok(()));
+    assert_eq!(rt; host.write_at(8, b"abcd"), Ok(()), "into the new file");
+    assert_eq!(rt; host.cut(9), Ok(()));
+    assert_eq!(rt; host.write_at(9, b"z\n"), Ok(()));
+    assert_eq!(rt; host.sync(), Ok(()));
+    assert_file(&rt, "spots/db", "01234567az\n", usual)?;
+    fs::remove_dir_all(&rt, "spots")?;
     Ok(())
 }
