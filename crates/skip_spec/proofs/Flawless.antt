@@ -262,12 +262,12 @@ module _ (file starts : List ℕ) (clean : is_dirty file ≡ false) (inside : en
           subst (λ (b : Bool). Links file level (latest_on level passed) (cond b (e ∷ on_level level rest) (on_level level rest))) (sym t)
           (subst (λ (b : Bool). Links file level (cond b e.at (latest_on level passed)) (on_level level rest)) t l)
 
-  length_all : (passed rest : List Entry) → length (all_of passed rest) ≡ length passed + length rest
+  pub length_all : (passed rest : List Entry) → length (all_of passed rest) ≡ length passed + length rest
   length_all [] rest = omega arith
   length_all (e ∷ passed) rest = omega (arith, length_all passed (e ∷ rest))
 
   -- the way to the end, and what is right there
-  last : (passed : List Entry) → next_flaw file starts passed ≡ None → successor file (latest passed) ≡ 0 → (way_flaw file starts (latest passed) ≡ None) × (end_flaw file passed ≡ None)
+  pub last : (passed : List Entry) → next_flaw file starts passed ≡ None → successor file (latest passed) ≡ 0 → (way_flaw file starts (latest passed) ≡ None) × (end_flaw file passed ≡ None)
   unfolding next_flaw
   last passed e ends =
       let all = all_none (next_checks file starts passed) e in
@@ -278,7 +278,7 @@ module _ (file starts : List ℕ) (clean : is_dirty file ≡ false) (inside : en
   unfolding end_flaw
   end_links passed e = let all = all_none (end_checks file passed) e in or_clean (is_dirty file) (lead_to file passed 0 30) clean (holds _ 64 _ all.0)
 
-  end_count : (passed : List Entry) → end_flaw file passed ≡ None → (header_in file).num_records ≡ length passed
+  pub end_count : (passed : List Entry) → end_flaw file passed ≡ None → (header_in file).num_records ≡ length passed
   unfolding end_flaw
   end_count passed e = let all = all_none (end_checks file passed) e in eqb-true _ _ (or_clean (is_dirty file) (eqb (header_in file).num_records (length passed)) clean (holds _ 32 _ all.1.0))
 
@@ -357,10 +357,20 @@ opens file bytes front starts right dummy passed live next ends =
       clean = (says, reads, not_dirty file clean);
     }
 
-pub flawless_opens : (file : List ℕ) → AreBytes file → FirstFlaw file None → (m : Map) × Opens file m
-flawless_opens file bytes (inl p) = absurd (p.0 refl)
-flawless_opens file bytes (inr p) =
-    let front = front_right file p.0 in
+-- what verification walks over in a file without a flaw
+pub record IsFlawless (file : List ℕ) : Type 0 where
+  pub front : FrontIsRight file
+  pub starts : List ℕ
+  pub rows : RightRows file 336 starts (end_of file)
+  pub dummy : dummy_flaw file ≡ None
+  pub passed : List Entry
+  pub live : RightLive file starts passed
+  pub next : next_flaw file starts passed ≡ None
+  pub ends : successor file (latest passed) ≡ 0
+
+pub flawless : (file : List ℕ) → FirstFlaw file None → IsFlawless file
+flawless file (inl p) = absurd (p.0 refl)
+flawless file (inr p) =
     let at_end = p.1 in
     elim at_end.3 [
       | inl q ↦ absurd (q.1 refl)
@@ -368,7 +378,19 @@ flawless_opens file bytes (inr p) =
         | inl d ↦ absurd (d.0 refl)
         | inr d ↦ elim d.1.3 [
           | inl some ↦ absurd (some refl)
-          | inr ends ↦ (_, opens file bytes front at_end.0 (subst (λ (to : ℕ). RightRows file 336 at_end.0 to) q.0 at_end.2) d.0 d.1.0 d.1.1 d.1.2 ends)
+          | inr ends ↦ record {
+            front = front_right file p.0;
+            starts = at_end.0;
+            rows = subst (λ (to : ℕ). RightRows file 336 at_end.0 to) q.0 at_end.2;
+            dummy = d.0;
+            passed = d.1.0;
+            live = d.1.1;
+            next = d.1.2;
+            ends = ends;
+          }
         ]
       ]
     ]
+
+pub flawless_opens : (file : List ℕ) → AreBytes file → FirstFlaw file None → (m : Map) × Opens file m
+flawless_opens file bytes none = let f = flawless file none in (_, opens file bytes f.front f.starts f.rows f.dummy f.passed f.live f.next f.ends)

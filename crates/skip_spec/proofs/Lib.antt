@@ -1,3 +1,4 @@
+pub mod Ahead
 pub mod AnAnswer
 pub mod Checks
 pub mod Cuts

@@ -4,6 +4,7 @@ pub mod Examples
 pub mod FirstFlaw
 pub mod Landing
 pub mod Laws
+pub mod MapOf
 pub mod Near
 pub mod Opens
 pub mod Records

@@ -2,7 +2,7 @@
 ghost use Rattle.std.specs.Prelude.{◌≡◌, ◌≤◌, ◌+◌, ℕ, List, [], length, false, None};
 ghost use Rattle.std.specs.List.{list_all, AllByRecursion};
 ghost use Rattle.skip_form.specs.Flaws.{header_flaw, header_in, head_flaw, head_in};
-ghost use Rattle.skip_spec.specs.Records.{key_in};
+ghost use Rattle.skip_spec.specs.Records.{key_in, value_in};
 ghost use Rattle.skip_spec.specs.Chain.{Entry};
 ghost use Rattle.skip_spec.specs.FirstFlaw.{is_dirty, is_zero, is_below, is_padding_right, lead_to, latest_key, dummy_flaw, live_flaw, end_flaw};
 
@@ -22,12 +22,22 @@ pub(crate) fn head_of(file: &[u8], at: u64) -> Head
 }
 
 /// The key of the record at an offset.
-fn key<'a>(file: &'a [u8], at: usize, head: &Head) -> &'a [u8]
+pub(crate) fn key<'a>(file: &'a [u8], at: usize, head: &Head) -> &'a [u8]
     requires head { head.now ≡ head_in file.now at }
     requires inside { at + head.now.size ≤ length file.now }
     ensures { result.now ≡ key_in file.now at }
 {
     part(file, at + head_size(head), head.key_len as usize)
+}
+
+/// The value of the record at an offset.
+pub(crate) fn value<'a>(file: &'a [u8], at: usize, head: &Head) -> &'a [u8]
+    requires head { head.now ≡ head_in file.now at }
+    requires inside { at + head.now.size ≤ length file.now }
+    ensures { result.now ≡ value_in file.now at }
+{
+    let place = at + head_size(head) + head.key_len as usize;
+    part(file, place, head.value_len as usize)
 }
 
 /// Each byte is zero.
@@ -133,7 +143,7 @@ fn are_upper_ends(file: &[u8]) -> bool
 }
 
 /// How many records the header counts.
-fn counted(file: &[u8]) -> u64
+pub(crate) fn counted(file: &[u8]) -> u64
     requires { header_flaw file.now ≡ None }
     ensures { result ≡ (header_in file.now).num_records }
 {

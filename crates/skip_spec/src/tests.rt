@@ -1,6 +1,8 @@
-// First flaws of whole files, with check words as zlib gives them.
+// First flaws and maps of whole files, with check words as zlib gives them.
 use super::*;
 use base_core::{Damage, Flaw};
+use std::alloc::Global;
+use std::test::Fail;
 
 /// A clean header of generation 1, last repacked at 336, of one live record and 400 bytes.
 const HEADER: [u8; 64] = [
@@ -127,6 +129,14 @@ fn circle() -> [u8; 440] {
     file
 }
 
+/// The list of the circle's records ends after the second.
+fn two_pairs() -> [u8; 440] {
+    let mut file = circle();
+    lay(&mut file, 390, &[0, 0]);
+    lay(&mut file, 400, &[0x54, 0x0B, 0x03, 0xC5]);
+    file
+}
+
 /// An empty database.
 fn empty() -> [u8; 336] {
     let mut file = [0u8; 336];
@@ -247,4 +257,43 @@ fn delete_record_that_leads_to_itself(rt: HostRuntime) {
         check: Flaw::Kind,
     };
     assert_eq!(rt; first_flaw(&file), Some(kind));
+}
+
+/// The map of a file as text, or `flaw`.
+fn map_text(alloc: Global, file: &[u8]) -> Result<Vec<u8>, Fail> {
+    let mut text = Vec::new(alloc);
+    let Some(pairs) = file_map(alloc, file)? else {
+        text.extend_from_slice(b"flaw")?;
+        return Ok(text);
+    };
+    for pair in &pairs {
+        text.extend_from_slice(pair.key)?;
+        text.push(b'=')?;
+        text.extend_from_slice(pair.value)?;
+        text.push(b';')?;
+    }
+    Ok(text)
+}
+
+#[test]
+fn maps_of_the_definitions(rt: HostRuntime) -> Result<(), Fail> {
+    let empty = empty();
+    let deleted = deleted();
+    let one_pair = one_pair();
+    let put_twice = put_twice();
+    let two_pairs = two_pairs();
+    let circle = circle();
+    for (file, wanted) in [
+        (empty.as_slice(), b"".as_slice()),
+        (&deleted, b""),
+        (&one_pair, b"a=b;"),
+        (&put_twice, b"a=y;"),
+        (&two_pairs, b"a=1;b=2;"),
+        (&circle, b"flaw"),
+        (cut(&one_pair, 399), b"flaw"),
+    ] {
+        let text = map_text(rt.alloc(), file)?;
+        assert_eq!(rt; text.as_slice(), wanted);
+    }
+    Ok(())
 }
