@@ -93,6 +93,35 @@ lands_whole at bytes old = record { no_shorter = omega (arith, long, length-take
     long : length (written_at at bytes old) ≡ length (take at old) + length bytes + length (drop (at + length bytes) old)
     long = length-append (take at old ++ bytes) (drop (at + length bytes) old) ∙ ap (λ (n : ℕ). n + length (drop (at + length bytes) old)) (length-append (take at old) bytes)
 
+-- it lands whole behind other bytes, up to which the file was filled
+pub lands_pad : (at : ℕ) (bytes old more : List ℕ) → at ≤ length old + length more → length more ≤ at - length old → Lands old at bytes (written_at at bytes (old ++ more))
+lands_pad at bytes old more reaches fills = record {
+  no_shorter = omega (arith, long, both);
+  no_longer = omega (arith, long, both, fills);
+  lines = λ line. inr (λ i _ _ below. same i below);
+}
+  where
+    both : length (old ++ more) ≡ length old + length more
+    both = length-append old more
+
+    long : length (written_at at bytes (old ++ more)) ≡ max (length (old ++ more)) (at + length bytes)
+    long = length-written at bytes (old ++ more) (omega (arith, both, reaches))
+
+    sides : (i : ℕ) → (i < at) ⊎ ((at ≤ i) × (i < at + length bytes)) ⊎ (at + length bytes ≤ i)
+    sides i = grind arith
+
+    same : (i : ℕ) → i < length old → get_or (written_at at bytes (old ++ more)) i 0 ≡ get_or (written_at at bytes old) i 0
+    same i below =
+        let inside : i < length (old ++ more) = omega (arith, both, below) in
+        let was : get_or (old ++ more) i 0 ≡ get_or old i 0 = get_or_append_left old more 0 i below in
+        elim (sides i) [
+          | inl before ↦ written_before at bytes (old ++ more) i inside before ∙ was ∙ sym (written_before at bytes old i below before)
+          | inr rest ↦ elim rest [
+            | inl here ↦ written_inside at bytes (old ++ more) i inside here.0 here.1 ∙ sym (written_inside at bytes old i below here.0 here.1)
+            | inr after ↦ written_after at bytes (old ++ more) i inside after ∙ was ∙ sym (written_after at bytes old i below after)
+          ]
+        ]
+
 -- it doesn't land
 pub lands_none : (at : ℕ) (bytes old : List ℕ) → Lands old at bytes old
 lands_none at bytes old = record { no_shorter = omega arith; no_longer = omega arith; lines = λ line. inl (λ i _ _ _. refl) }

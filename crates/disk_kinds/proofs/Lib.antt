@@ -1,5 +1,9 @@
 pub mod Calls
+pub mod LeftImages
 pub mod Pending
+pub mod ShowsNext
+pub mod ReplayLemmas
 pub mod StepLemmas
 pub mod Time
+pub mod ToPlay
 pub mod Writing

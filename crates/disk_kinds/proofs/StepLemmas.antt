@@ -1,12 +1,14 @@
 -- One event more is one step more.
 use Rattle.std.proofs.Common.{◌≡◌, ℕ, ◌+◌, ◌≤◌, ◌∷◌, [], ◌++◌, append-nil, List, length, take, drop, refl, sym, ◌∙◌, ap, arith, length-drop}
 use Rattle.std.proofs.lemmas.List.{take-append-le, drop-append-le}
+use Rattle.std.specs.Prelude.{Bool, true, false, ◌&&◌}
+use Rattle.std.specs.List.{list_all}
 use Rattle.disk_kinds.specs.declared.call_log.Event.{Event}
 use Rattle.disk_kinds.specs.declared.call_log.Event.TheVariants.{Kept, Began, Appended, Wrote, WritePending, Cut, CutPending, Synced, Published, PublishPending, Told}
-use Rattle.disk_kinds.specs.History.{Step, new_extended, main_written, write_pending, size_of, total_size, step_of, steps_of}
+use Rattle.disk_kinds.specs.History.{Step, new_extended, main_written, write_pending, size_of, total_size, step_of, steps_of, is_within}
 
 -- an event reads only its own bytes
-step_front : (e : Event) (bytes more : List ℕ) → size_of e ≤ length bytes → step_of e (bytes ++ more) ≡ step_of e bytes
+pub step_front : (e : Event) (bytes more : List ℕ) → size_of e ≤ length bytes → step_of e (bytes ++ more) ≡ step_of e bytes
 step_front Kept bytes more fits = refl
 step_front Began bytes more fits = refl
 step_front (Appended count) bytes more fits = ap new_extended (take-append-le count bytes more fits)
@@ -36,3 +38,12 @@ total_size-append (f ∷ events) e = omega (arith, total_size-append events e)
 -- an event without bytes
 pub steps-bare : (events : List Event) (e : Event) (bytes : List ℕ) → total_size events ≡ length bytes → size_of e ≡ 0 → steps_of (events ++ e ∷ []) bytes ≡ steps_of events bytes ++ step_of e [] ∷ []
 steps-bare events e bytes same bare = ap (λ (l : List ℕ). steps_of (events ++ e ∷ []) l) (sym (append-nil bytes)) ∙ steps-append events e bytes [] same bare
+
+-- one event more that writes within the room
+pub all_within : (room : ℕ) (events : List Event) (e : Event) → list_all (is_within room) events ≡ true → is_within room e ≡ true → list_all (is_within room) (events ++ e ∷ []) ≡ true
+all_within room [] e all one = cc (one)
+all_within room (f ∷ events) e all one = both (is_within room f) (list_all (is_within room) events) all (all_within room events e)
+  where
+    both : (a b : Bool) → a && b ≡ true → (b ≡ true → is_within room e ≡ true → list_all (is_within room) (events ++ e ∷ []) ≡ true) → a && list_all (is_within room) (events ++ e ∷ []) ≡ true
+    both true b all more = more all one
+    both false b all more = absurd (cc (all))

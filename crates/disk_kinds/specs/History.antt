@@ -1,5 +1,5 @@
 -- What the past of a disk in memory did to its main file.
-use Rattle.std.specs.Prelude.{◌≡◌, ◌⊎◌, ℕ, zero, suc, ◌+◌, ◌-◌, ◌*◌, ◌/◌, ◌≤◌, min, Bool, true, false, List, [], ◌∷◌, ◌++◌, Option, Some, None, Vec, length, take, drop}
+use Rattle.std.specs.Prelude.{◌≡◌, ◌⊎◌, ℕ, zero, suc, ◌+◌, ◌-◌, ◌*◌, ◌/◌, ◌≤◌, min, nat_le, ◌&&◌, Bool, true, false, List, [], ◌∷◌, ◌++◌, Option, Some, None, Vec, length, take, drop}
 use Rattle.std.specs.Option.{option_map}
 use Rattle.std.specs.Borrow.{Bor}
 use Rattle.std.specs.declared.alloc.Global.{Global}
@@ -32,6 +32,12 @@ size_of (Appended count) = count
 size_of (Wrote at count) = count
 size_of (WritePending at count made) = count
 size_of _ = 0
+
+-- what an event writes lies within so many bytes
+abbrev pub is_within : ℕ → Event → Bool
+is_within room (Wrote at size) = nat_le (at + size) room
+is_within room (WritePending at size made) = nat_le (at + size) room && nat_le made size
+is_within room _ = true
 
 -- how many bytes of the record these events have for their own
 abbrev pub total_size : List Event → ℕ
@@ -149,6 +155,11 @@ image_of false bytes = None
 abbrev pub start_image : Option (Vec ℕ Global) → Image
 start_image None = None
 start_image (Some bytes) = Some bytes.items
+
+-- how many bytes it has
+abbrev pub image_size : Image → ℕ
+image_size None = 0
+image_size (Some bytes) = length bytes
 
 -- the main file that a caller gives or reads
 abbrev pub given_image : Option (Bor (List ℕ)) → Image

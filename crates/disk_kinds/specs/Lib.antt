@@ -2,6 +2,9 @@ pub mod CallLog
 pub mod Files
 pub mod History
 pub mod Landings
+pub mod Left
 pub mod MemHost
 pub mod Memory
 pub mod Replay
+pub mod ReplaySteps
+pub mod Replayed

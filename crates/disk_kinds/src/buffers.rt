@@ -1,6 +1,8 @@
 // Memory that is taken at once.
-ghost use Rattle.std.specs.Prelude.{◌≡◌, ◌≤◌, ◌+◌, [], IfOk, length, vec_len, vec_capacity};
+ghost use Rattle.std.specs.Prelude.{◌≡◌, ◌≤◌, ◌+◌, [], ℕ, max, IfOk, OnOk, length, vec_len, vec_capacity};
 ghost use Rattle.base_core.specs.Landing.{written_at};
+ghost use Rattle.disk_kinds.specs.History.{given_image, start_image, image_size, FitsIn};
+ghost use Rattle.disk_kinds.specs.Left.{laid_at};
 
 use base_core::NoMemory;
 use std::alloc::Global;
@@ -34,4 +36,51 @@ pub(crate) fn overwrite(buffer: &mut Vec<u8>, at: usize, bytes: &[u8])
     let count = bytes.len().min(buffer.len() - at);
     buffer[at..at + count].copy_from_slice(&bytes[..count]);
     let _ = buffer.extend_from_slice(&bytes[count..]);
+}
+
+// The bytes, where there are any.
+pub(crate) fn as_slice(bytes: &Option<Vec<u8>>) -> Option<&[u8]>
+    ensures image { given_image result ≡ start_image bytes.now }
+    ensures size { (room : ℕ) → image_size (start_image bytes.now) ≤ room → FitsIn room result }
+{
+    match bytes {
+        Some(bytes) => Some(bytes.as_slice()),
+        None => None,
+    }
+}
+
+// Puts the bytes into a buffer in place of its own.
+pub(crate) fn assign(buffer: &mut Vec<u8>, bytes: &[u8]) -> Result<(), NoMemory>
+    ensures items { OnOk result (buffer.new.items ≡ bytes.now) }
+    ensures bound { vec_len buffer.new ≤ length bytes.now }
+{
+    buffer.clear();
+    match buffer.extend_from_slice(bytes) {
+        Ok(()) => Ok(()),
+        Err(_) => Err(NoMemory),
+    }
+}
+
+// Puts bytes at an offset, or at the end of a buffer that ends before it.
+pub(crate) fn write(buffer: &mut Vec<u8>, at: usize, bytes: &[u8]) -> Result<(), NoMemory>
+    ensures items { OnOk result (buffer.new.items ≡ written_at at bytes.now buffer.old.items) }
+    ensures bound { vec_len buffer.new ≤ max (vec_len buffer.old) (at + length bytes.now) }
+{
+    if buffer.reserve(bytes.len()).is_err() {
+        return Err(NoMemory);
+    }
+    let place = at.min(buffer.len());
+    overwrite(buffer, place, bytes);
+    Ok(())
+}
+
+// Lays bytes into a buffer, with zeros before them where it ends before.
+pub(crate) fn lay(buffer: &mut Vec<u8>, at: usize, bytes: &[u8]) -> Result<(), NoMemory>
+    ensures items { OnOk result (buffer.new.items ≡ laid_at at bytes.now buffer.old.items) }
+    ensures bound { vec_len buffer.new ≤ max (vec_len buffer.old) (at + length bytes.now) }
+{
+    if buffer.len() < at && buffer.resize(at, 0).is_err() {
+        return Err(NoMemory);
+    }
+    write(buffer, at, bytes)
 }

@@ -1,6 +1,7 @@
 // The record of calls of a disk in memory: which number each has, and what it did.
-ghost use Rattle.std.specs.Prelude.{◌≡◌, ◌↔◌, ◌+◌, ◌*◌, ◌≤◌, length, vec_len, vec_capacity, IsTrue, IfOk, Contains};
-ghost use Rattle.disk_kinds.specs.History.{total_size, size_of};
+ghost use Rattle.std.specs.Prelude.{◌≡◌, ◌↔◌, ◌+◌, ◌*◌, ◌≤◌, length, vec_len, vec_capacity, true, IsTrue, IfOk, Contains};
+ghost use Rattle.std.specs.List.{list_all};
+ghost use Rattle.disk_kinds.specs.History.{total_size, size_of, is_within};
 
 use crate::buffers::{copied, with_room};
 use base_core::{Failed, NoMemory};
@@ -33,6 +34,20 @@ pub enum Event {
     Told(u64),
 }
 
+impl Event {
+    /// How many bytes of the record are its own.
+    pub(crate) fn size(&self) -> u64
+        ensures { result ≡ size_of self.now }
+    {
+        match *self {
+            Event::Appended(size) => size,
+            Event::Wrote { size, .. } => size,
+            Event::WritePending { size, .. } => size,
+            _ => 0,
+        }
+    }
+}
+
 /// What becomes of a call.
 #[derive(Clone, Copy, Debug, PartialEq, Eq)]
 pub enum Admission {
@@ -57,6 +72,7 @@ pub struct CallLog {
     ghost has_bytes: { room ≤ vec_capacity bytes },
     ghost fits: { 64 * vec_len events + vec_len bytes ≤ room },
     ghost sizes: { total_size events.items ≡ length bytes.items },
+    ghost within: { list_all (is_within room) events.items ≡ true },
 }
 
 // Whether the number is on the list.
@@ -84,6 +100,18 @@ impl CallLog {
         })
     }
 
+    pub(crate) fn events(&self) -> &[Event]
+        ensures { result.now ≡ self.now.events.items }
+    {
+        &self.events
+    }
+
+    pub(crate) fn bytes(&self) -> &[u8]
+        ensures { result.now ≡ self.now.bytes.items }
+    {
+        &self.bytes
+    }
+
     pub(crate) fn room(&self) -> u64
         ensures { result ≡ self.now.room }
     {
@@ -108,6 +136,7 @@ impl CallLog {
     fn note(&mut self, event: Event)
         requires room { 64 ≤ log_left self.old }
         requires bare { size_of event ≡ 0 }
+        requires within { is_within self.old.room event ≡ true }
         ensures { NotesStep (step_of event []) 64 self.old self.new }
     {
         self.events.push_reserved(event);
@@ -117,6 +146,7 @@ impl CallLog {
     fn note_bytes(&mut self, event: Event, bytes: &[u8])
         requires room { 64 + length bytes.now ≤ log_left self.old }
         requires own { size_of event ≡ length bytes.now }
+        requires within { is_within self.old.room event ≡ true }
         ensures { NotesStep (step_of event bytes.now) (64 + length bytes.now) self.old self.new }
     {
         let _ = self.bytes.extend_from_slice(bytes);
@@ -150,8 +180,8 @@ impl CallLog {
 
     /// Counts a call, and notes what it does, or what it does where it fails by the list or the stop.
     pub(crate) fn call(&mut self, done: Event, failed: Event, is_stopped: bool) -> Admission
-        requires done { size_of done ≡ 0 }
-        requires failed { size_of failed ≡ 0 }
+        requires done { (size_of done ≡ 0) × (is_within self.old.room done ≡ true) }
+        requires failed { (size_of failed ≡ 0) × (is_within self.old.room failed ≡ true) }
         ensures becomes { Becomes (IsRefused self.old is_stopped) (step_of done []) (step_of failed []) 64 self.old self.new result }
         ensures next { self.new.calls ≡ log_next self.old }
         ensures bounds { SameBounds self.old self.new }
@@ -184,9 +214,15 @@ impl CallLog {
     }
 
     /// Counts a call as [`call`](CallLog::call) does, whose two events have these bytes for their own.
-    pub(crate) fn call_with_bytes(&mut self, done: Event, failed: Event, is_stopped: bool, bytes: &[u8]) -> Admission
-        requires done { size_of done ≡ length bytes.now }
-        requires failed { size_of failed ≡ length bytes.now }
+    pub(crate) fn call_with_bytes(
+        &mut self,
+        done: Event,
+        failed: Event,
+        is_stopped: bool,
+        bytes: &[u8],
+    ) -> Admission
+        requires done { (size_of done ≡ length bytes.now) × (is_within self.old.room done ≡ true) }
+        requires failed { (size_of failed ≡ length bytes.now) × (is_within self.old.room failed ≡ true) }
         ensures becomes { Becomes (IsRefused self.old is_stopped) (step_of done bytes.now) (step_of failed bytes.now) (64 + length bytes.now) self.old self.new result }
         ensures next { self.new.calls ≡ log_next self.old }
         ensures bounds { SameBounds self.old self.new }

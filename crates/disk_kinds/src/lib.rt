@@ -10,7 +10,10 @@ mod landings;
 mod lines;
 mod mem_host;
 mod memory;
+mod playing;
 mod real;
+mod replay;
+mod replaying;
 #[cfg(test)]
 mod tests;
 

@@ -1,12 +1,13 @@
 // A disk in memory. It keeps a record of its calls, by which its past is told.
 ghost use Rattle.std.specs.Prelude.{◌≡◌, ◌+◌, ◌*◌, ◌≤◌, vec_len, vec_capacity};
 ghost use Rattle.disk_kinds.specs.CallLog.{log_left, log_steps};
-ghost use Rattle.disk_kinds.specs.History.{first_moment, moment_after, start_image, image_of, landing_count};
+ghost use Rattle.disk_kinds.specs.History.{first_moment, moment_after, start_image, image_of, image_size, landing_count};
 
-use crate::buffers::{copied, overwrite, with_room};
+use crate::buffers::{as_slice, copied, overwrite, with_room};
 use crate::call_log::{Admission, CallLog, Event};
 use crate::landings::Landings;
 use crate::lines::{first_bytes, line_count};
+use crate::playing::replayed;
 use base_core::{Disk, Failed, NoMemory};
 use std::alloc::Global;
 use std::mem;
@@ -58,6 +59,7 @@ pub struct MemDisk {
     ghost main_is: { image_of has_main main.items ≡ (moment_after (first_moment (start_image start)) (log_steps log)).reads },
     ghost new_is: { new_bytes.items ≡ (moment_after (first_moment (start_image start)) (log_steps log)).new_bytes },
     ghost new_fits: { vec_len new_bytes + log_left log ≤ log.room },
+    ghost start_fits: { image_size (start_image start) ≤ log.room },
     ghost made_is: { landings.made ≡ (moment_after (first_moment (start_image start)) (log_steps log)).landings },
     ghost pending_is: { landings.pending ≡ landing_count (moment_after (first_moment (start_image start)) (log_steps log)).pending },
     ghost made_fits: { 32 * landings.made + log_left log ≤ log.room },
@@ -68,10 +70,11 @@ pub struct MemDisk {
 }
 
 impl MemDisk {
-    ghost use Rattle.std.specs.Prelude.{Some, None, IfOk};
+    ghost use Rattle.std.specs.Prelude.{[], Some, None, IfOk};
     ghost use Rattle.base_core.specs.CrashImages.{IsDurable};
     ghost use Rattle.disk_kinds.specs.History.{FitsIn, given_image};
     ghost use Rattle.disk_kinds.specs.Memory.{mem_state, fail_list, next_call, record_room, record_left, landings_made, landings_pending, stop_of, SameButStop};
+    ghost use Rattle.disk_kinds.specs.Left.{left_image};
 
     /// A disk with this main file, all of it synced. It takes `room` bytes for each of its buffers, and
     /// the calls with the numbers `fails` are to fail.
@@ -138,6 +141,26 @@ impl MemDisk {
         ensures same { SameButStop self.old self.new }
     {
         self.landings.stop = Some(landings);
+    }
+
+    /// The disk that a stop now leaves, where `landed` says of each pending landing, in order, whether it landed; one
+    /// that is not listed did not. What a line that did not land would have put past the end of the file is zeros
+    /// where a later line landed, and else the file ends before it. A cut that did not land leaves the length.
+    ///
+    /// The new disk has the same room, no calls that are to fail, and no stop.
+    pub fn left(&self, alloc: Global, landed: &[bool]) -> Result<MemDisk, NoMemory>
+        ensures possible { (mem_state self.now).leaves (left_image self.now landed.now) }
+        ensures reads { IfOk result (λ d. (mem_state d).reads ≡ Some (left_image self.now landed.now)) }
+        ensures durable { IfOk result (λ d. IsDurable (mem_state d)) }
+        ensures leaves { IfOk result (λ d. (mem_state d).leaves (left_image self.now landed.now)) }
+        ensures starts { IfOk result (λ d. ((mem_state d).mark ≡ 0) × ((mem_state d).clock ≡ 0) × ((mem_state d).fresh ≡ None)) }
+        ensures counts { IfOk result (λ d. ((mem_state d).faults ≡ 0) × ((mem_state d).written ≡ 0) × ((mem_state d).publishes ≡ 0)) }
+        ensures fails { IfOk result (λ d. (fail_list d ≡ []) × (next_call d ≡ 1)) }
+        ensures room { IfOk result (λ d. (record_room d ≡ record_room self.now) × (record_left d ≡ record_room self.now)) }
+        ensures landings { IfOk result (λ d. (landings_made d ≡ 0) × (landings_pending d ≡ 0) × (stop_of d ≡ None)) }
+    {
+        let replay = replayed(alloc, as_slice(&self.start), &self.log, landed)?;
+        MemDisk::new(alloc, replay.left(), self.log.room(), &[])
     }
 
     /// The counts of the disk.
@@ -226,7 +249,11 @@ impl Disk for MemDisk {
     {
         let size = bytes.len() as u64;
         self.written = self.written.saturating_add(size);
-        if size > self.log.room() - at || !self.landings.has_room(self.log.room(), line_count(at, size)) {
+        if size > self.log.room() - at
+            || !self
+                .landings
+                .has_room(self.log.room(), line_count(at, size))
+        {
             self.log.count_lacking();
             return Err(Failed);
         }
@@ -238,7 +265,10 @@ impl Disk for MemDisk {
             made: first_bytes(at, size, landed),
         };
         let is_stopped = self.landings.is_stopped(lines.max(1));
-        match self.log.call_with_bytes(Event::Wrote { at, size }, failed, is_stopped, bytes) {
+        match self
+            .log
+            .call_with_bytes(Event::Wrote { at, size }, failed, is_stopped, bytes)
+        {
             Admission::Served => {
                 overwrite(&mut self.main, at as usize, bytes);
                 self.landings.add(lines);
@@ -271,7 +301,10 @@ impl Disk for MemDisk {
             self.log.call_stopped();
             return Err(Failed);
         }
-        match self.log.call(Event::Cut(length), Event::CutPending(length), false) {
+        match self
+            .log
+            .call(Event::Cut(length), Event::CutPending(length), false)
+        {
             Admission::Served => {
                 self.main.truncate(length as usize);
                 self.landings.add(1);
@@ -405,7 +438,10 @@ impl Disk for MemDisk {
             self.log.call_stopped();
             return Err(Failed);
         }
-        match self.log.call(Event::Published, Event::PublishPending, false) {
+        match self
+            .log
+            .call(Event::Published, Event::PublishPending, false)
+        {
             Admission::Served => {
                 mem::swap(&mut self.main, &mut self.new_bytes);
                 self.new_bytes.clear();

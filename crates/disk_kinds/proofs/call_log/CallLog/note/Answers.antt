@@ -1,6 +1,7 @@
 use Rattle.std.proofs.Common.{ap, ◌∙◌, arith, rules}
-use Rattle.disk_kinds.specs.History.{total_size, steps_of}
-use Rattle.disk_kinds.proofs.StepLemmas.{total_size-append, steps-bare}
+use Rattle.std.specs.List.{list_all}
+use Rattle.disk_kinds.specs.History.{total_size, steps_of, is_within}
+use Rattle.disk_kinds.proofs.StepLemmas.{total_size-append, all_within, steps-bare}
 use Rattle.disk_kinds.proofs.call_log.CallLog.note.Goals as goal
 
 pub invariant_of-self-clause-sizes : goal.invariant_of-self-clause-sizes
@@ -19,3 +20,8 @@ returns c = record {
   room = search rules;
   fails = search rules;
 }
+
+pub invariant_of-self-clause-within : goal.invariant_of-self-clause-within
+invariant_of-self-clause-within c =
+    ap (list_all (is_within c.args.self.now.room)) c.push_reserved.ensures.items
+    ∙ all_within c.args.self.now.room c.args.self.now.events.items c.args.event c.args.self.now.within c.requires.within
