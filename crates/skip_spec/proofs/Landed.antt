@@ -3,7 +3,8 @@ use Rattle.std.proofs.Common.{◌≡◌, ℕ, ◌+◌, ◌-◌, ◌*◌, ◌/◌
 use Rattle.std.proofs.lemmas.Bool.{cases_lt}
 use Rattle.base_core.specs.Landing.{Lands}
 use Rattle.base_core.proofs.Landings.{written_inside, lands_at, lands_kept}
-use Rattle.skip_form.specs.Fields.{part, u64_in, pointer_in}
+use Rattle.base_core.specs.Fields.{part, u64_in}
+use Rattle.skip_form.specs.Fields.{pointer_in}
 use Rattle.skip_spec.specs.Rows.{IsAmong}
 use Rattle.skip_spec.specs.Opens.{Contents, Reads, HasDirty}
 use Rattle.skip_spec.specs.Near.{Near, IsImageOf, IsFixed, MayHold, IsPermittedWrite, heads, free_slot_of}
