@@ -1,7 +1,8 @@
 -- What the answer of `length` says of the main file.
-use Rattle.std.proofs.Common.{◌≡◌, ℕ, List, Option, Some, None, length, refl, sym, ◌∙◌}
+use Rattle.std.proofs.Common.{◌≡◌, ℕ, List, Option, Some, None, length, refl, sym, ap, ◌∙◌}
+use Rattle.std.specs.Prelude.{IsSome}
 use Rattle.base_core.specs.CrashImages.{Image}
-use Rattle.base_core.specs.DiskCalls.{IsLength}
+use Rattle.base_core.specs.DiskCalls.{HasLength, IsLength}
 
 pub absent_length : (main : Image) (answer : Option ℕ) → answer ≡ None → IsLength main answer → main ≡ None
 absent_length None answer none is = refl
@@ -10,3 +11,8 @@ absent_length (Some b) answer none is = cc (none, is)
 pub there_length : (main : Image) (answer : Option ℕ) (size : ℕ) → answer ≡ Some size → IsLength main answer → (b : List ℕ) × (main ≡ Some b) × (length b ≡ size)
 there_length None answer size some is = cc (some, is)
 there_length (Some b) answer size some is = let same : Some (length b) ≡ Some size = sym is ∙ some in (b, refl, cc same)
+
+-- where it is told what the disk reads as, the main file is there and has this length
+pub told_length : (reads : Option Image) (size : ℕ) → ((main : Image) → reads ≡ Some main → IsLength main (Some size)) → IsSome reads → HasLength reads size
+told_length None size is told = absurd (cc told)
+told_length (Some main) size is told = let there = there_length main (Some size) size refl (is main refl) in (there.0, ap Some there.1, there.2)
