@@ -1,3 +1,4 @@
 pub mod Landings
 pub mod Lengths
 pub mod Moments
+pub mod Parts

@@ -2,6 +2,7 @@ pub mod Causes
 pub mod CrashImages
 pub mod DiskCalls
 pub mod Escapes
+pub mod Fields
 pub mod HostCalls
 pub mod Landing
 pub mod Notes

@@ -4,6 +4,7 @@
 mod action;
 mod bytes;
 mod disk;
+mod fields;
 mod flaw;
 mod host;
 mod limits;
@@ -16,6 +17,7 @@ mod steps;
 pub use action::{Action, Backend, Options};
 pub use bytes::{Bytes, NoMemory, Text};
 pub use disk::{Disk, Failed};
+pub use fields::{part_at, u32_at, u64_at};
 pub use flaw::{Damage, Flaw};
 pub use host::Host;
 pub use limits::{

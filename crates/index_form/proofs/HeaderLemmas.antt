@@ -10,10 +10,10 @@ use Rattle.index_form.specs.declared.fault.IndexFault.TheVariants.{Short, Check,
 use Rattle.index_form.specs.declared.header.IndexHeader.{IndexHeader}
 use Rattle.index_form.specs.Reading.{header_in, ends_with_check, first_fault}
 use Rattle.index_form.specs.Spelling.{IsHeader, header_fields, header_front, header_bytes, version, bytes_of_record}
-use Rattle.index_form.specs.Fields.{part, u32_in}
+use Rattle.base_core.specs.Fields.{part, u32_in, AreBytes}
 use Rattle.check_word.proofs.Bound.{check_word-lt}
-use Rattle.index_form.proofs.Parts.{IsBytes, to_be_bytes-u32_in, to_be_bytes-u64_in, u32_in-lt, u64_in-lt}
-use Rattle.index_form.proofs.Joined.{parts, total, sizes_of, concat-parts, sizes_of-parts, length-concat, concat-same, Small, IsBytes-Small, Small-concat, small_4, small_8, u32_again, u64_again, are_bytes, check_is_spelled, spelled_is_checked}
+use Rattle.base_core.proofs.Parts.{to_be_bytes-u32_in, to_be_bytes-u64_in, u32_in-lt, u64_in-lt}
+use Rattle.index_form.proofs.Joined.{parts, total, sizes_of, concat-parts, sizes_of-parts, length-concat, concat-same, Small, AreBytes-Small, Small-concat, small_4, small_8, u32_again, u64_again, fits_place, check_is_spelled, spelled_is_checked}
 
 -- ---- what is read is spelled so
 
@@ -21,7 +21,7 @@ use Rattle.index_form.proofs.Joined.{parts, total, sizes_of, concat-parts, sizes
 abbrev sizes : List ℕ
 sizes = 4 ∷ 4 ∷ 4 ∷ 4 ∷ 4 ∷ 4 ∷ 4 ∷ 4 ∷ 8 ∷ 4 ∷ 4 ∷ 4 ∷ 4 ∷ 4 ∷ 4 ∷ 4 ∷ 8 ∷ 8 ∷ 4 ∷ 4 ∷ 4 ∷ 4 ∷ 4 ∷ 4 ∷ 4 ∷ 12 ∷ []
 
-pub header_front-header_in : (b : List ℕ) → IsBytes b → 124 ≤ length b → header_front (header_in b) ≡ part b 0 124
+pub header_front-header_in : (b : List ℕ) → AreBytes b → 124 ≤ length b → header_front (header_in b) ≡ part b 0 124
 header_front-header_in b fits within =
     let generation = to_be_bytes-u32_in b 0 fits (omega arith) in
     let format = to_be_bytes-u32_in b 4 fits (omega arith) in
@@ -51,7 +51,7 @@ header_front-header_in b fits within =
     let fields : header_fields (header_in b) ≡ parts b 0 sizes = λ i. generation i ∷ format i ∷ minor_version i ∷ start_offset i ∷ record_size i ∷ num_records i ∷ last_appenddate i ∷ last_uid i ∷ quota_mailbox_used i ∷ pop3_last_login i ∷ uidvalidity i ∷ deleted i ∷ answered i ∷ flagged i ∷ options i ∷ leaked_cache i ∷ highestmodseq i ∷ deletedmodseq i ∷ exists i ∷ first_expunged i ∷ last_repack_time i ∷ header_file_crc i ∷ sync_crc i ∷ recentuid i ∷ recenttime i ∷ part b 112 12 ∷ [] in
     ap concat fields ∙ concat-parts b 0 sizes
 
-pub IsHeader-header_in : (b : List ℕ) → IsBytes b → 124 ≤ length b → (header_in b).minor_version ≡ version → (header_in b).start_offset ≡ 128 → (header_in b).record_size ≡ bytes_of_record → IsHeader (header_in b)
+pub IsHeader-header_in : (b : List ℕ) → AreBytes b → 124 ≤ length b → (header_in b).minor_version ≡ version → (header_in b).start_offset ≡ 128 → (header_in b).record_size ≡ bytes_of_record → IsHeader (header_in b)
 IsHeader-header_in b fits within minor_version start_offset record_size = record {
   generation = u32_in-lt b 0 fits;
   format = u32_in-lt b 4 fits;
@@ -78,7 +78,7 @@ IsHeader-header_in b fits within minor_version start_offset record_size = record
   sync_crc = u32_in-lt b 100 fits;
   recentuid = u32_in-lt b 104 fits;
   recenttime = u32_in-lt b 108 fits;
-  spare_bytes = are_bytes b 112 12 fits (omega arith);
+  spare_bytes = fits_place b 112 12 fits (omega arith);
 }
 
 -- ---- what is spelled so is read
@@ -93,7 +93,7 @@ small-header_front : (h : IndexHeader) → IsHeader h → Small (header_front h)
 small-header_front h is = Small-concat (header_fields h) (small_4 h.generation, (small_4 h.format, (small_4 h.minor_version, (small_4 h.start_offset, (small_4 h.record_size, (small_4 h.num_records, (small_4 h.last_appenddate, (small_4 h.last_uid, (small_8 h.quota_mailbox_used, (small_4 h.pop3_last_login, (small_4 h.uidvalidity, (small_4 h.deleted, (small_4 h.answered, (small_4 h.flagged, (small_4 h.options, (small_4 h.leaked_cache, (small_8 h.highestmodseq, (small_8 h.deletedmodseq, (small_4 h.exists, (small_4 h.first_expunged, (small_4 h.last_repack_time, (small_4 h.header_file_crc, (small_4 h.sync_crc, (small_4 h.recentuid, (small_4 h.recenttime, (is.spare_bytes.small, tt))))))))))))))))))))))))))
 
 pub header_check-lt : (h : IndexHeader) → IsHeader h → check_word (header_front h) < 2 ^ 32
-header_check-lt h is = check_word-lt (header_front h) (IsBytes-Small (header_front h) (small-header_front h is))
+header_check-lt h is = check_word-lt (header_front h) (AreBytes-Small (header_front h) (small-header_front h is))
 
 pub header_in-header_front : (b : List ℕ) (h : IndexHeader) → IsHeader h → 124 ≤ length b → part b 0 124 ≡ header_front h → header_in b ≡ h
 header_in-header_front b h is within e =
@@ -171,7 +171,7 @@ none-Passes b p =
 
 -- ---- with the check word
 
-pub header_bytes-header_in : (b : List ℕ) → IsBytes b → first_fault b ≡ None → IsHeader (header_in b) × (part b 0 128 ≡ header_bytes (header_in b))
+pub header_bytes-header_in : (b : List ℕ) → AreBytes b → first_fault b ≡ None → IsHeader (header_in b) × (part b 0 128 ≡ header_bytes (header_in b))
 unfolding header_bytes
 header_bytes-header_in b fits e =
     let p = Passes-none b e in

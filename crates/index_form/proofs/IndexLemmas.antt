@@ -10,12 +10,12 @@ use Rattle.check_word.specs.CheckWord.{check_word}
 use Rattle.index_form.specs.declared.fault.IndexFault.{IndexFault}
 use Rattle.index_form.specs.declared.header.IndexHeader.{IndexHeader}
 use Rattle.index_form.specs.declared.record.IndexRecord.{IndexRecord}
-use Rattle.index_form.specs.Fields.{part}
+use Rattle.base_core.specs.Fields.{part, AreBytes}
 use Rattle.index_form.specs.Reading.{as_written, StoredRecord, stored_record, stored_records, records_of, header_in, first_fault, index_read}
 use Rattle.index_form.specs.Spelling.{IsHeader, IsRecord, IsIndex, header_front, header_bytes, record_front, record_bytes, index_bytes}
 use Rattle.index_form.specs.Laws.{WrittenIsRead, ReadIsWritten}
-use Rattle.index_form.proofs.Parts.{IsBytes, IsBytes-part, IsBytes-drop}
-use Rattle.index_form.proofs.Joined.{IsBytes-Small, whole_part}
+use Rattle.base_core.proofs.Parts.{AreBytes-part}
+use Rattle.index_form.proofs.Joined.{AreBytes-drop, AreBytes-Small, whole_part}
 use Rattle.index_form.proofs.HeaderLemmas.{length-header_front, header_bytes-header_in, first_fault-header_bytes, Passes-none}
 use Rattle.index_form.proofs.RecordLemmas.{length-record_front, IsRecord-record_in, record_bytes-record_in, stored_record-record_bytes}
 
@@ -114,18 +114,18 @@ pub record Written (n : ℕ) (b : List ℕ) (rs : List IndexRecord) : Type 0 whe
   pub records : AllByRecursion IsRecord rs
   pub bytes : take (96 * n) b ≡ flat_map record_bytes rs
 
-record_written : (b : List ℕ) (r : IndexRecord) → IsBytes b → 96 ≤ length b → stored_record (take 96 b) ≡ as_written r → IsRecord r × (take 96 b ≡ record_bytes r)
+record_written : (b : List ℕ) (r : IndexRecord) → AreBytes b → 96 ≤ length b → stored_record (take 96 b) ≡ as_written r → IsRecord r × (take 96 b ≡ record_bytes r)
 unfolding part
 record_written b r fits within e =
     let size : length (take 96 b) ≡ 96 = omega (arith, length-take 96 b) in
-    let small : IsBytes (take 96 b) = IsBytes-part b 0 96 fits in
+    let small : AreBytes (take 96 b) = AreBytes-part b 0 96 fits in
     let fields = ap (λ (p : StoredRecord). p.fields) e in
     let right = ap (λ (p : StoredRecord). p.check_right) e in (
       subst IsRecord fields (IsRecord-record_in (take 96 b) small (omega (arith, size))),
       sym (whole_part (take 96 b) 96 size) ∙ record_bytes-record_in (take 96 b) small (omega (arith, size)) right ∙ ap record_bytes fields,
     )
 
-records_written : (n : ℕ) (b : List ℕ) (rs : List IndexRecord) → IsBytes b → 96 * n ≤ length b → stored_records n b ≡ map as_written rs → Written n b rs
+records_written : (n : ℕ) (b : List ℕ) (rs : List IndexRecord) → AreBytes b → 96 * n ≤ length b → stored_records n b ≡ map as_written rs → Written n b rs
 records_written zero b [] fits within e = record { count = refl; records = tt; bytes = refl }
 records_written zero b (r ∷ rs) fits within e = absurd cc
 records_written (suc n) b [] fits within e = absurd cc
@@ -133,7 +133,7 @@ records_written (suc n) b (r ∷ rs) fits within e =
     let first : stored_record (take 96 b) ≡ as_written r = cc in
     let others : stored_records n (drop 96 b) ≡ map as_written rs = cc in
     let one = record_written b r fits (omega arith) first in
-    let more = records_written n (drop 96 b) rs (IsBytes-drop 96 b fits) (omega (arith, length-drop 96 b)) others in
+    let more = records_written n (drop 96 b) rs (AreBytes-drop 96 b fits) (omega (arith, length-drop 96 b)) others in
     let size : 96 * suc n ≡ 96 + 96 * n = omega arith in
     record {
       count = ap suc more.count;
@@ -141,13 +141,13 @@ records_written (suc n) b (r ∷ rs) fits within e =
       bytes = ap (λ (k : ℕ). take k b) size ∙ take-add 96 (96 * n) b ∙ (λ i. one.1 i ++ more.bytes i) ∙ sym (flat_map-cons record_bytes r rs);
     }
 
-index_written : (file : List ℕ) (h : IndexHeader) (rs : List IndexRecord) → IsBytes file → first_fault file ≡ None → header_in file ≡ h → records_of file ≡ map as_written rs → IsIndex h rs × (take (128 + 96 * h.num_records) file ≡ index_bytes h rs)
+index_written : (file : List ℕ) (h : IndexHeader) (rs : List IndexRecord) → AreBytes file → first_fault file ≡ None → header_in file ≡ h → records_of file ≡ map as_written rs → IsIndex h rs × (take (128 + 96 * h.num_records) file ≡ index_bytes h rs)
 unfolding part
 index_written file h rs fits none header records =
     let p = Passes-none file none in
     let long : 128 + 96 * (header_in file).num_records ≤ length file = p.count in
     let spelled = header_bytes-header_in file fits none in
-    let written = records_written (header_in file).num_records (drop 128 file) rs (IsBytes-drop 128 file fits) (omega (arith, length-drop 128 file)) records in
+    let written = records_written (header_in file).num_records (drop 128 file) rs (AreBytes-drop 128 file fits) (omega (arith, length-drop 128 file)) records in
     let count : h.num_records ≡ (header_in file).num_records = ap (λ (k : IndexHeader). k.num_records) (sym header) in
     let front : take 128 file ≡ header_bytes h = spelled.1 ∙ ap header_bytes header in (
       record { header = subst IsHeader header spelled.0; records = written.records; count = count ∙ written.count },
@@ -161,7 +161,7 @@ read_is_written file h rs small e = go (first_fault file) refl
     go None none =
         let read : ◌≡◌ {A = Result (IndexHeader × List StoredRecord) IndexFault} (Ok (header_in file, records_of file)) (Ok (h, map as_written rs)) = sym (index_read-none file none) ∙ e in
         let both : ◌≡◌ {A = IndexHeader × List StoredRecord} (header_in file, records_of file) (h, map as_written rs) = cc in
-        index_written file h rs (IsBytes-Small file small) none (ap (λ (x : IndexHeader × List StoredRecord). x.0) both) (ap (λ (x : IndexHeader × List StoredRecord). x.1) both)
+        index_written file h rs (AreBytes-Small file small) none (ap (λ (x : IndexHeader × List StoredRecord). x.0) both) (ap (λ (x : IndexHeader × List StoredRecord). x.1) both)
     go (Some f) some =
         let clash : ◌≡◌ {A = Result (IndexHeader × List StoredRecord) IndexFault} (Err f) (Ok (h, map as_written rs)) = sym (index_read-some file f some) ∙ e in
         absurd cc

@@ -1,13 +1,13 @@
 -- Fields one after the other.
-use Rattle.std.proofs.Common.{◌≡◌, ℕ, zero, suc, ◌+◌, ◌^◌, ◌<◌, ◌≤◌, List, [], ◌∷◌, ◌++◌, length, take, refl, sym, ap, ◌∙◌, arith, append_assoc}
+use Rattle.std.proofs.Common.{◌≡◌, ℕ, zero, suc, ◌+◌, ◌^◌, ◌<◌, ◌≤◌, List, [], ◌∷◌, ◌++◌, length, take, drop, refl, sym, ap, ◌∙◌, arith, append_assoc}
 use Rattle.std.specs.List.{AllByRecursion, concat}
 use Rattle.std.specs.Int.{w32, w64, to_be_bytes}
-use Rattle.std.proofs.lemmas.List.{append-nil, length-append, take_all}
+use Rattle.std.proofs.lemmas.List.{append-nil, length-append, take_all, get_or-drop}
 use Rattle.std.proofs.lemmas.Nat.{from_be_bytes-to_be_bytes_4, from_be_bytes-to_be_bytes_8}
 use Rattle.check_word.specs.CheckWord.{check_word}
-use Rattle.index_form.specs.Fields.{part, u32_in, u64_in}
-use Rattle.index_form.specs.Spelling.{AreBytes}
-use Rattle.index_form.proofs.Parts.{IsBytes, IsBytes-part, part-zero, part-add, length-part, to_be_bytes-u32_in}
+use Rattle.base_core.specs.Fields.{part, u32_in, u64_in, AreBytes}
+use Rattle.index_form.specs.Spelling.{FitsPlace}
+use Rattle.base_core.proofs.Parts.{AreBytes-part, part-zero, part-add, length-part, to_be_bytes-u32_in, append_parts}
 
 -- ---- parts of a file, of these sizes
 
@@ -40,17 +40,6 @@ pub length-concat : (xs : List (List ℕ)) → length (concat xs) ≡ total (siz
 length-concat [] = refl
 length-concat (x ∷ xs) = length-append x (concat xs) ∙ ap (λ (n : ℕ). length x + n) (length-concat xs)
 
--- two joined lists whose first parts are equally long
-pub append_parts : (a b x y : List ℕ) → length a ≡ length b → a ++ x ≡ b ++ y → (a ≡ b) × (x ≡ y)
-append_parts [] [] x y l e = (refl, e)
-append_parts [] (b ∷ bs) x y l e = absurd (omega (arith, l))
-append_parts (a ∷ as') [] x y l e = absurd (omega (arith, l))
-append_parts (a ∷ as') (b ∷ bs) x y l e =
-    let head : a ≡ b = cc in
-    let tail : as' ++ x ≡ bs ++ y = cc in
-    let rest = append_parts as' bs x y (omega (arith, l)) tail in
-    (let first = rest.0 in cc, rest.1)
-
 -- fields of the same sizes that are the same when they are joined
 pub concat-same : (xs ys : List (List ℕ)) → sizes_of xs ≡ sizes_of ys → concat xs ≡ concat ys → xs ≡ ys
 concat-same [] [] l e = refl
@@ -65,17 +54,20 @@ concat-same (x ∷ xs) (y ∷ ys) l e =
 
 -- ---- bytes
 
+pub AreBytes-drop : (at : ℕ) (b : List ℕ) → AreBytes b → AreBytes (drop at b)
+AreBytes-drop at b fits i = rw (get_or-drop at b i 0) (fits (at + i))
+
 abbrev pub Small : List ℕ → Type 0
 Small bytes = AllByRecursion (λ b. b < 256) bytes
 
-pub IsBytes-Small : (bytes : List ℕ) → Small bytes → IsBytes bytes
-IsBytes-Small [] small i = omega arith
-IsBytes-Small (b ∷ bytes) small zero = small.0
-IsBytes-Small (b ∷ bytes) small (suc i) = IsBytes-Small bytes small.1 i
+pub AreBytes-Small : (bytes : List ℕ) → Small bytes → AreBytes bytes
+AreBytes-Small [] small i = omega arith
+AreBytes-Small (b ∷ bytes) small zero = small.0
+AreBytes-Small (b ∷ bytes) small (suc i) = AreBytes-Small bytes small.1 i
 
-pub Small-IsBytes : (bytes : List ℕ) → IsBytes bytes → Small bytes
-Small-IsBytes [] fits = tt
-Small-IsBytes (b ∷ bytes) fits = (fits zero, Small-IsBytes bytes (λ i. fits (suc i)))
+pub Small-AreBytes : (bytes : List ℕ) → AreBytes bytes → Small bytes
+Small-AreBytes [] fits = tt
+Small-AreBytes (b ∷ bytes) fits = (fits zero, Small-AreBytes bytes (λ i. fits (suc i)))
 
 Small-append : (xs ys : List ℕ) → Small xs → Small ys → Small (xs ++ ys)
 Small-append [] ys a b = b
@@ -104,7 +96,7 @@ u64_again bytes n lt e = ap u64_in e ∙ from_be_bytes-to_be_bytes_8 n lt
 front_part : (b : List ℕ) (n : ℕ) → part b 0 (n + 4) ≡ part b 0 n ++ part b n 4
 front_part b n = part-add b 0 n 4 ∙ ap (λ (k : ℕ). part b 0 n ++ part b k 4) (let e : 0 + n ≡ n = omega arith in e)
 
-pub check_is_spelled : (b : List ℕ) (n : ℕ) → IsBytes b → n + 4 ≤ length b → u32_in (part b n 4) ≡ check_word (part b 0 n) → part b 0 (n + 4) ≡ part b 0 n ++ to_be_bytes w32 (check_word (part b 0 n))
+pub check_is_spelled : (b : List ℕ) (n : ℕ) → AreBytes b → n + 4 ≤ length b → u32_in (part b n 4) ≡ check_word (part b 0 n) → part b 0 (n + 4) ≡ part b 0 n ++ to_be_bytes w32 (check_word (part b 0 n))
 check_is_spelled b n fits within e =
     front_part b n ∙ ap (λ (x : List ℕ). part b 0 n ++ x) (sym (to_be_bytes-u32_in b n fits within) ∙ ap (to_be_bytes w32) e)
 
@@ -113,8 +105,8 @@ spelled_is_checked b front n len within lt e =
     let split = append_parts (part b 0 n) front (part b n 4) (to_be_bytes w32 (check_word front)) (length-part b 0 n (omega arith) ∙ sym len) (sym (front_part b n) ∙ e) in
     (split.0, u32_again (part b n 4) (check_word front) lt split.1 ∙ ap check_word (sym split.0))
 
-pub are_bytes : (b : List ℕ) (at count : ℕ) → IsBytes b → at + count ≤ length b → AreBytes count (part b at count)
-are_bytes b at count fits within = record { size = length-part b at count within; small = Small-IsBytes (part b at count) (IsBytes-part b at count fits) }
+pub fits_place : (b : List ℕ) (at count : ℕ) → AreBytes b → at + count ≤ length b → FitsPlace count (part b at count)
+fits_place b at count fits within = record { size = length-part b at count within; small = Small-AreBytes (part b at count) (AreBytes-part b at count fits) }
 
 -- all the bytes
 pub whole_part : (b : List ℕ) (count : ℕ) → length b ≡ count → part b 0 count ≡ b

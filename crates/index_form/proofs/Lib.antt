@@ -1,4 +1,3 @@
-mod Parts
 mod Joined
 mod HeaderLemmas
 mod RecordLemmas

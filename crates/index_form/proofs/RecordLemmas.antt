@@ -8,10 +8,10 @@ use Rattle.check_word.specs.CheckWord.{check_word}
 use Rattle.index_form.specs.declared.record.IndexRecord.{IndexRecord}
 use Rattle.index_form.specs.Reading.{record_in, ends_with_check, stored_record, StoredRecord}
 use Rattle.index_form.specs.Spelling.{IsRecord, record_fields, record_front, record_bytes}
-use Rattle.index_form.specs.Fields.{part}
+use Rattle.base_core.specs.Fields.{part, AreBytes}
 use Rattle.check_word.proofs.Bound.{check_word-lt}
-use Rattle.index_form.proofs.Parts.{IsBytes, to_be_bytes-u32_in, to_be_bytes-u64_in, u32_in-lt, u64_in-lt}
-use Rattle.index_form.proofs.Joined.{parts, total, sizes_of, concat-parts, sizes_of-parts, length-concat, concat-same, Small, IsBytes-Small, Small-concat, small_4, small_8, u32_again, u64_again, are_bytes, whole_part, check_is_spelled, spelled_is_checked}
+use Rattle.base_core.proofs.Parts.{to_be_bytes-u32_in, to_be_bytes-u64_in, u32_in-lt, u64_in-lt}
+use Rattle.index_form.proofs.Joined.{parts, total, sizes_of, concat-parts, sizes_of-parts, length-concat, concat-same, Small, AreBytes-Small, Small-concat, small_4, small_8, u32_again, u64_again, fits_place, whole_part, check_is_spelled, spelled_is_checked}
 
 -- ---- what is read is spelled so
 
@@ -19,7 +19,7 @@ use Rattle.index_form.proofs.Joined.{parts, total, sizes_of, concat-parts, sizes
 abbrev sizes : List ℕ
 sizes = 4 ∷ 4 ∷ 4 ∷ 4 ∷ 4 ∷ 4 ∷ 4 ∷ 4 ∷ 4 ∷ 16 ∷ 4 ∷ 4 ∷ 20 ∷ 8 ∷ 4 ∷ []
 
-pub record_front-record_in : (b : List ℕ) → IsBytes b → 92 ≤ length b → record_front (record_in b) ≡ part b 0 92
+pub record_front-record_in : (b : List ℕ) → AreBytes b → 92 ≤ length b → record_front (record_in b) ≡ part b 0 92
 record_front-record_in b fits within =
     let uid = to_be_bytes-u32_in b 0 fits (omega arith) in
     let internaldate = to_be_bytes-u32_in b 4 fits (omega arith) in
@@ -37,7 +37,7 @@ record_front-record_in b fits within =
     let fields : record_fields (record_in b) ≡ parts b 0 sizes = λ i. uid i ∷ internaldate i ∷ sentdate i ∷ size i ∷ header_size i ∷ gmtime i ∷ cache_offset i ∷ last_updated i ∷ system_flags i ∷ part b 36 16 ∷ content_lines i ∷ cache_version i ∷ part b 60 20 ∷ modseq i ∷ cache_check i ∷ [] in
     ap concat fields ∙ concat-parts b 0 sizes
 
-pub IsRecord-record_in : (b : List ℕ) → IsBytes b → 92 ≤ length b → IsRecord (record_in b)
+pub IsRecord-record_in : (b : List ℕ) → AreBytes b → 92 ≤ length b → IsRecord (record_in b)
 IsRecord-record_in b fits within = record {
   uid = u32_in-lt b 0 fits;
   internaldate = u32_in-lt b 4 fits;
@@ -48,10 +48,10 @@ IsRecord-record_in b fits within = record {
   cache_offset = u32_in-lt b 24 fits;
   last_updated = u32_in-lt b 28 fits;
   system_flags = u32_in-lt b 32 fits;
-  user_flags = are_bytes b 36 16 fits (omega arith);
+  user_flags = fits_place b 36 16 fits (omega arith);
   content_lines = u32_in-lt b 52 fits;
   cache_version = u32_in-lt b 56 fits;
-  digest = are_bytes b 60 20 fits (omega arith);
+  digest = fits_place b 60 20 fits (omega arith);
   modseq = u64_in-lt b 80 fits;
   cache_check = u32_in-lt b 88 fits;
 }
@@ -68,7 +68,7 @@ small-record_front : (r : IndexRecord) → IsRecord r → Small (record_front r)
 small-record_front r is = Small-concat (record_fields r) (small_4 r.uid, (small_4 r.internaldate, (small_4 r.sentdate, (small_4 r.size, (small_4 r.header_size, (small_4 r.gmtime, (small_4 r.cache_offset, (small_4 r.last_updated, (small_4 r.system_flags, (is.user_flags.small, (small_4 r.content_lines, (small_4 r.cache_version, (is.digest.small, (small_8 r.modseq, (small_4 r.cache_check, tt)))))))))))))))
 
 pub record_check-lt : (r : IndexRecord) → IsRecord r → check_word (record_front r) < 2 ^ 32
-record_check-lt r is = check_word-lt (record_front r) (IsBytes-Small (record_front r) (small-record_front r is))
+record_check-lt r is = check_word-lt (record_front r) (AreBytes-Small (record_front r) (small-record_front r is))
 
 pub record_in-record_front : (b : List ℕ) (r : IndexRecord) → IsRecord r → 92 ≤ length b → part b 0 92 ≡ record_front r → record_in b ≡ r
 record_in-record_front b r is within e =
@@ -92,7 +92,7 @@ record_in-record_front b r is within e =
 
 -- ---- with the check word
 
-pub record_bytes-record_in : (b : List ℕ) → IsBytes b → 96 ≤ length b → IsTrue (ends_with_check b 96) → part b 0 96 ≡ record_bytes (record_in b)
+pub record_bytes-record_in : (b : List ℕ) → AreBytes b → 96 ≤ length b → IsTrue (ends_with_check b 96) → part b 0 96 ≡ record_bytes (record_in b)
 unfolding record_bytes
 record_bytes-record_in b fits within right =
     check_is_spelled b 92 fits within (eqb-true _ _ right) ∙ ap (λ (x : List ℕ). x ++ to_be_bytes w32 (check_word x)) (sym (record_front-record_in b fits (omega arith)))
@@ -105,7 +105,7 @@ stored_record-record_bytes b r is within e =
     let right : ends_with_check b 96 ≡ true = eq-eqb _ _ checked.1 in
     λ i. record { fields = fields i; check_right = right i }
 
-pub check_right-spelled : (b : List ℕ) → IsBytes b → length b ≡ 96 → (IsTrue (ends_with_check b 96) → b ≡ record_bytes (record_in b)) × (b ≡ record_bytes (record_in b) → IsTrue (ends_with_check b 96))
+pub check_right-spelled : (b : List ℕ) → AreBytes b → length b ≡ 96 → (IsTrue (ends_with_check b 96) → b ≡ record_bytes (record_in b)) × (b ≡ record_bytes (record_in b) → IsTrue (ends_with_check b 96))
 check_right-spelled b fits size =
     let whole : part b 0 96 ≡ b = whole_part b 96 size in
     let is = IsRecord-record_in b fits (omega arith) in (

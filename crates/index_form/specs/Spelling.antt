@@ -99,7 +99,7 @@ index_bytes h rs = header_bytes h ++ flat_map record_bytes rs
 -- ---- what has a spelling
 
 -- so many bytes
-pub record AreBytes (count : ℕ) (bytes : List ℕ) : Type 0 where
+pub record FitsPlace (count : ℕ) (bytes : List ℕ) : Type 0 where
   pub size : length bytes ≡ count
   pub small : AllByRecursion (λ b. b < 256) bytes
 
@@ -130,7 +130,7 @@ pub record IsHeader (h : IndexHeader) : Type 0 where
   pub sync_crc : h.sync_crc < 2 ^ 32
   pub recentuid : h.recentuid < 2 ^ 32
   pub recenttime : h.recenttime < 2 ^ 32
-  pub spare_bytes : AreBytes 12 h.spare_bytes
+  pub spare_bytes : FitsPlace 12 h.spare_bytes
 
 -- a record whose fields fit their places
 pub record IsRecord (r : IndexRecord) : Type 0 where
@@ -143,10 +143,10 @@ pub record IsRecord (r : IndexRecord) : Type 0 where
   pub cache_offset : r.cache_offset < 2 ^ 32
   pub last_updated : r.last_updated < 2 ^ 32
   pub system_flags : r.system_flags < 2 ^ 32
-  pub user_flags : AreBytes 16 r.user_flags
+  pub user_flags : FitsPlace 16 r.user_flags
   pub content_lines : r.content_lines < 2 ^ 32
   pub cache_version : r.cache_version < 2 ^ 32
-  pub digest : AreBytes 20 r.digest
+  pub digest : FitsPlace 20 r.digest
   pub modseq : r.modseq < 2 ^ 64
   pub cache_check : r.cache_check < 2 ^ 32
 

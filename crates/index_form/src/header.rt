@@ -3,8 +3,9 @@ ghost use Rattle.std.specs.Prelude.{◌≡◌, ◌≤◌, length};
 ghost use Rattle.index_form.specs.Reading.{header_in};
 ghost use Rattle.index_form.specs.Spelling.{header_bytes};
 
-use crate::fields::{part_at, put, u32_at, u64_at};
+use crate::fields::put;
 use crate::sizes::HEADER_SIZE;
+use base_core::{part_at, u32_at, u64_at};
 use check_word::check;
 
 /// What the first 128 bytes of an index say, all but their check word.

@@ -6,10 +6,10 @@ ghost use Rattle.index_form.specs.Spelling.{IsHeader, IsIndex, header_bytes, ind
 ghost use Rattle.index_form.specs.Views.{file_of};
 
 use crate::fault::IndexFault;
-use crate::fields::{part_at, u32_at};
 use crate::header::IndexHeader;
 use crate::sizes::{HEADER_SIZE, MINOR_VERSION, RECORD_SIZE};
 use crate::view::IndexView;
+use base_core::{part_at, u32_at};
 use check_word::check;
 
 /// The header's check word is that of its first 124 bytes.

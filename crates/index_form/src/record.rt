@@ -3,8 +3,9 @@ ghost use Rattle.std.specs.Prelude.{◌≡◌, ◌-◌, ◌↔◌, IsTrue, lengt
 ghost use Rattle.index_form.specs.Reading.{ends_with_check, record_in};
 ghost use Rattle.index_form.specs.Spelling.{bytes_of_record, record_bytes, record_front};
 
-use crate::fields::{part_at, put, u32_at, u64_at};
+use crate::fields::put;
 use crate::sizes::{LAST_FIELDS, RECORD_SIZE};
+use base_core::{part_at, u32_at, u64_at};
 use check_word::check;
 
 /// What an index says of one message, all but the record's check word.

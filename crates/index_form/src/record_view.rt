@@ -3,9 +3,9 @@ ghost use Rattle.std.specs.Prelude.{◌≡◌, ◌-◌, ◌↔◌, IsTrue, lengt
 ghost use Rattle.index_form.specs.Reading.{ends_with_check};
 ghost use Rattle.index_form.specs.Spelling.{bytes_of_record, record_bytes, record_front};
 
-use crate::fields::{part_at, u32_at, u64_at};
 use crate::record::{IndexRecord, is_record_checked, record_at};
 use crate::sizes::LAST_FIELDS;
+use base_core::{part_at, u32_at, u64_at};
 
 /// One record of an index, in the file's own bytes.
 #[derive(Clone, Copy, Debug)]

@@ -9,11 +9,13 @@ use Rattle.skip_form.specs.declared.head.Head.{Head}
 use Rattle.skip_form.specs.declared.head.Kind as kinds
 use Rattle.skip_form.specs.declared.head.Kind.TheVariants.{Dummy, Put, Gone, Commit}
 use Rattle.skip_form.specs.declared.opening.Opening.{Opening}
-use Rattle.skip_form.specs.Fields.{part, u16_in, u32_in}
+use Rattle.base_core.specs.Fields.{part, u32_in, AreBytes}
+use Rattle.skip_form.specs.Fields.{u16_in}
 use Rattle.skip_form.specs.Sizes.{record_size}
 use Rattle.skip_form.specs.Spelling.{StandsAt, IsLevelOf, AreLengthsOf, opening_bytes, type_byte}
 use Rattle.skip_form.specs.Flaws.{opening_in, is_kind_at, is_level, is_extended, head_flaw, head_in, kind_of}
-use Rattle.skip_form.proofs.Parts.{AreBytes, part-2, part-4, part-8, part-add, to_be_bytes-u16_in, to_be_bytes-u32_in, u16_in-lt, u32_in-lt}
+use Rattle.base_core.proofs.Parts.{part-2, part-4, part-8, part-add, to_be_bytes-u32_in, u32_in-lt}
+use Rattle.skip_form.proofs.Parts.{to_be_bytes-u16_in, u16_in-lt}
 use Rattle.skip_form.proofs.TestLemmas.{passed, not_false}
 
 -- ---- the tests, one by one

@@ -1,21 +1,11 @@
 -- Two headers with one spelling are equal.
-use Rattle.std.proofs.Common.{◌≡◌, ℕ, ◌^◌, ◌<◌, List, [], ◌∷◌, ◌++◌, length, take, drop, refl, sym, ap, ◌∙◌, arith}
+use Rattle.std.proofs.Common.{◌≡◌, ℕ, ◌^◌, ◌<◌, List, take, drop, refl, sym, ap, ◌∙◌}
 use Rattle.std.specs.Int.{w16, w32, w64, to_be_bytes, from_be_bytes}
 use Rattle.std.proofs.lemmas.Nat.{from_be_bytes-to_be_bytes_2, from_be_bytes-to_be_bytes_4, from_be_bytes-to_be_bytes_8}
 use Rattle.check_word.specs.CheckWord.{check_word}
+use Rattle.base_core.proofs.Parts.{append_parts}
 use Rattle.skip_form.specs.declared.header.Header.{Header}
 use Rattle.skip_form.specs.Spelling.{IsHeader, header_bytes, header_front}
-
--- two joined lists whose first parts are equally long
-pub append_parts : (a b x y : List ℕ) → length a ≡ length b → a ++ x ≡ b ++ y → (a ≡ b) × (x ≡ y)
-append_parts [] [] x y l e = (refl, e)
-append_parts [] (b ∷ bs) x y l e = absurd (omega (arith, l))
-append_parts (a ∷ as') [] x y l e = absurd (omega (arith, l))
-append_parts (a ∷ as') (b ∷ bs) x y l e =
-    let head : a ≡ b = cc in
-    let tail : as' ++ x ≡ bs ++ y = cc in
-    let rest = append_parts as' bs x y (omega (arith, l)) tail in
-    (let first = rest.0 in cc, rest.1)
 
 pub same_2 : (m n : ℕ) → m < 2 ^ 16 → n < 2 ^ 16 → to_be_bytes w16 m ≡ to_be_bytes w16 n → m ≡ n
 same_2 m n hm hn e = sym (from_be_bytes-to_be_bytes_2 m hm) ∙ ap (from_be_bytes w16) e ∙ from_be_bytes-to_be_bytes_2 n hn

@@ -1,22 +1,11 @@
--- Fields of a file, which is the list of its bytes. All numbers are big-endian.
-use Rattle.std.specs.Prelude.{ℕ, ◌+◌, ◌*◌, List, take, drop}
-use Rattle.std.specs.Int.{w16, w32, w64, from_be_bytes}
-
--- so many bytes of a file, from an offset on
-unfoldable pub part : List ℕ → ℕ → ℕ → List ℕ
-part file at count = take count (drop at file)
+-- Fields of a file that only this format has. All numbers are big-endian.
+use Rattle.std.specs.Prelude.{ℕ, ◌+◌, ◌*◌, List}
+use Rattle.std.specs.Int.{w16, from_be_bytes}
+use Rattle.base_core.specs.Fields.{part, u64_in}
 
 -- the number of 16 bits in these bytes
 unfoldable pub u16_in : List ℕ → ℕ
 u16_in bytes = from_be_bytes w16 bytes
-
--- the number of 32 bits in these bytes
-unfoldable pub u32_in : List ℕ → ℕ
-u32_in bytes = from_be_bytes w32 bytes
-
--- the number of 64 bits in these bytes
-unfoldable pub u64_in : List ℕ → ℕ
-u64_in bytes = from_be_bytes w64 bytes
 
 -- the pointer with this number of the record at an offset
 abbrev pub pointer_in : List ℕ → ℕ → ℕ → ℕ

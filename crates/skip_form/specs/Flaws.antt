@@ -9,7 +9,8 @@ use Rattle.skip_form.specs.declared.head.Head.{Head}
 use Rattle.skip_form.specs.declared.head.Kind as kinds
 use Rattle.skip_form.specs.declared.head.Kind.TheVariants.{Dummy, Put, Gone, Commit}
 use Rattle.skip_form.specs.declared.opening.Opening.{Opening}
-use Rattle.skip_form.specs.Fields.{part, u16_in, u32_in, u64_in}
+use Rattle.base_core.specs.Fields.{part, u32_in, u64_in}
+use Rattle.skip_form.specs.Fields.{u16_in}
 use Rattle.skip_form.specs.Sizes.{record_size}
 use Rattle.skip_form.specs.Spelling.{magic}
 

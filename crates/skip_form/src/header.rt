@@ -2,12 +2,11 @@
 ghost use Rattle.std.specs.Prelude.{◌≡◌, ◌≤◌, ◌↔◌, nat_eq, length, take, IfOk};
 ghost use Rattle.std.specs.Cmp.Lexicographic.{pointwise};
 ghost use Rattle.check_word.specs.CheckWord.{check_word};
-ghost use Rattle.skip_form.specs.Fields.{part};
+ghost use Rattle.base_core.specs.Fields.{part};
 ghost use Rattle.skip_form.specs.Flaws.{header_flaw, header_in};
 ghost use Rattle.skip_form.specs.Spelling.{header_bytes, IsHeader, magic};
 
-use crate::fields::{u32_at, u64_at};
-use base_core::Flaw;
+use base_core::{Flaw, u32_at, u64_at};
 use byteorder::{BigEndian, ByteOrder};
 use check_word::check;
 

@@ -2,7 +2,8 @@
 ghost use Rattle.std.specs.Prelude.{◌≡◌, ◌+◌, ◌≤◌, length};
 ghost use Rattle.skip_form.specs.Sizes as sizes;
 
-use crate::fields::{u16_at, u32_at};
+use crate::fields::u16_at;
+use base_core::u32_at;
 
 /// What stands in the first eight bytes of a record, whatever it is.
 #[derive(Clone, Copy)]

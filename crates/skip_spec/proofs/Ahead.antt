@@ -4,7 +4,7 @@ use Rattle.std.proofs.lemmas.List.{map-append}
 use Rattle.base_core.specs.declared.pair.Pair.{Pair}
 use Rattle.base_core.specs.OrderedMap.{Map}
 use Rattle.skip_form.specs.Flaws.{header_in, head_flaw, head_in}
-use Rattle.skip_form.proofs.Parts.{AreBytes}
+use Rattle.base_core.specs.Fields.{AreBytes}
 use Rattle.skip_spec.specs.Records.{key_in, value_in}
 use Rattle.skip_spec.specs.Chain.{Entry, pairs}
 use Rattle.skip_spec.specs.MapOf.{map_of}

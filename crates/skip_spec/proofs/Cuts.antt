@@ -2,7 +2,8 @@
 use Rattle.std.proofs.Common.{◌≡◌, ℕ, ◌+◌, ◌*◌, ◌/◌, ◌≤◌, List, length, take, refl, sym, ap, subst, ◌∙◌, inl, inr, arith}
 use Rattle.std.proofs.lemmas.List.{get_or-take, length-take}
 use Rattle.skip_form.specs.declared.header.Header.{Header}
-use Rattle.skip_form.specs.Fields.{part, u64_in, pointer_in}
+use Rattle.base_core.specs.Fields.{part, u64_in}
+use Rattle.skip_form.specs.Fields.{pointer_in}
 use Rattle.skip_form.specs.Spelling.{header_bytes}
 use Rattle.skip_form.proofs.UniqueHeader.{header_bytes-same}
 use Rattle.skip_spec.specs.Opens.{Contents, Reads, HasDirty, IsDirty, with_dirty}

@@ -12,7 +12,8 @@ use Rattle.skip_form.specs.declared.head.Kind.TheVariants.{Dummy, Put, Gone, Com
 use Rattle.skip_form.specs.Fields.{pointer_in}
 use Rattle.skip_form.specs.Flaws.{header_flaw, header_in, head_in, opening_in, is_kind_at, is_level, is_extended}
 use Rattle.skip_form.specs.Spelling.{StandsAt, type_byte}
-use Rattle.skip_form.proofs.Parts.{AreBytes, length-part}
+use Rattle.base_core.specs.Fields.{AreBytes}
+use Rattle.base_core.proofs.Parts.{length-part}
 use Rattle.skip_form.proofs.HeaderLemmas.{header_bytes-header_in}
 use Rattle.skip_form.proofs.HeadLemmas.{StandsAt-head_in}
 use Rattle.skip_spec.specs.Records.{HasKind, head_size_of, body_size_of, HeadCheckIsRight, TailCheckIsRight}

@@ -1,42 +1,35 @@
 -- A permitted write of which each line lands or not.
 use Rattle.std.proofs.Common.{◌≡◌, ℕ, ◌+◌, ◌-◌, ◌*◌, ◌/◌, ◌%◌, ◌<◌, ◌≤◌, List, length, get_or, take, refl, sym, ap, subst, ◌∙◌, inl, inr, arith, ◌⊎◌}
-use Rattle.std.proofs.lemmas.Bool.{cases_lt, le-ltb, lt-ltb, le-leb, lt-leb}
-use Rattle.skip_form.specs.Fields.{part, u64_in, pointer_in}
+use Rattle.std.proofs.lemmas.Bool.{cases_lt}
+use Rattle.base_core.specs.Landing.{Lands}
+use Rattle.base_core.proofs.Landings.{written_inside, lands_at, lands_kept}
+use Rattle.base_core.specs.Fields.{part, u64_in}
+use Rattle.skip_form.specs.Fields.{pointer_in}
 use Rattle.skip_spec.specs.Rows.{IsAmong}
 use Rattle.skip_spec.specs.Opens.{Contents, Reads, HasDirty}
 use Rattle.skip_spec.specs.Near.{Near, IsImageOf, IsFixed, MayHold, IsPermittedWrite, heads, free_slot_of}
-use Rattle.skip_spec.specs.Landing.{Lands, written}
 use Rattle.skip_spec.proofs.Cuts.{take_same, dirty_image, image_near}
 use Rattle.skip_spec.proofs.Kept.{free_slot_le}
 use Rattle.skip_spec.proofs.Parts.{Agree, part-same, part-moved}
 use Rattle.skip_spec.proofs.Places.{within, aligned, places, laid, head_is}
 
-written_inside : (old : List ℕ) (at : ℕ) (bytes : List ℕ) (i : ℕ) → at ≤ i → i < at + length bytes → written old at bytes i ≡ get_or bytes (i - at) 0
-written_inside old at bytes i low high = rw (le-leb at i low, lt-ltb i (at + length bytes) high) refl
-
-written_before : (old : List ℕ) (at : ℕ) (bytes : List ℕ) (i : ℕ) → i < at → written old at bytes i ≡ get_or old i 0
-written_before old at bytes i lt = rw (lt-leb at i lt) refl
-
-written_after : (old : List ℕ) (at : ℕ) (bytes : List ℕ) (i : ℕ) → at + length bytes ≤ i → written old at bytes i ≡ get_or old i 0
-written_after old at bytes i le = let low : at ≤ i = omega arith in rw (le-leb at i low, le-ltb i (at + length bytes) le) refl
-
 module _ (base : List ℕ) (f : Contents) (r : Reads base f) (old : List ℕ) (at : ℕ) (bytes image : List ℕ) (n : IsImageOf base f old) (w : IsPermittedWrite base f at bytes) (l : Lands old at bytes image) where
+  -- where the write changes no byte, the image has that of the old image
+  kept : (i : ℕ) → i < f.header.current_size → (i < at) ⊎ (at + length bytes ≤ i) → get_or image i 0 ≡ get_or old i 0
+  kept i high side = lands_kept at bytes old image i l (omega (arith, n.long)) side
+
   header_landed : take 64 image ≡ take 64 old
   header_landed =
-      take_same image old 64 (omega (arith, n.long, r.least, l.no_shorter)) (omega (arith, n.long, r.least)) (λ i lo hi.
-      elim (l.lines 0) [
-        | inl kept ↦ kept i (omega arith) (omega arith) (omega (arith, n.long, r.least))
-        | inr new ↦ new i (omega arith) (omega arith) (omega (arith, n.long, r.least)) ∙ written_before old at bytes i (omega (arith, w.past_header))
-      ])
+      take_same image old 64 (omega (arith, n.long, r.least, l.no_shorter)) (omega (arith, n.long, r.least)) (λ i lo hi. kept i (omega (arith, r.least)) (inl (omega (arith, w.past_header))))
 
   others_landed : (i : ℕ) → 64 ≤ i → i < f.header.current_size → IsFixed base f i → get_or image i 0 ≡ get_or base i 0
-  others_landed i low high fixed = elim (l.lines (i / 64)) [
-    | inl kept ↦ kept i (omega arith) (omega arith) (omega (arith, n.long)) ∙ n.others i low high fixed
-    | inr new ↦ new i (omega arith) (omega arith) (omega (arith, n.long)) ∙ elim (cases_lt i at) [
-      | inl lt ↦ written_before old at bytes i lt ∙ n.others i low high fixed
-      | inr le ↦ elim (cases_lt i (at + length bytes)) [
-        | inl lt ↦ written_inside old at bytes i le lt ∙ w.others i le lt high fixed
-        | inr past ↦ written_after old at bytes i past ∙ n.others i low high fixed
+  others_landed i low high fixed = elim (cases_lt i at) [
+    | inl lt ↦ kept i high (inl lt) ∙ n.others i low high fixed
+    | inr le ↦ elim (cases_lt i (at + length bytes)) [
+      | inr past ↦ kept i high (inr past) ∙ n.others i low high fixed
+      | inl lt ↦ elim (lands_at at bytes old image i l (omega (arith, n.long))) [
+        | inl was ↦ was ∙ n.others i low high fixed
+        | inr new ↦ new ∙ written_inside at bytes old i (omega (arith, n.long)) le lt ∙ w.others i le lt high fixed
       ]
     ]
   ]
@@ -46,18 +39,18 @@ module _ (base : List ℕ) (f : Contents) (r : Reads base f) (old : List ℕ) (a
   slot_landed head k place place-is line in_end was put =
       let holds = λ (bs : List ℕ). MayHold f.header.current_size (pointer_in base head k) (u64_in bs) in
       let as_old : Agree image old place 8 → holds (part image (head + 8 + 8 * k) 8) = λ agree. subst holds (sym (ap (λ (p : ℕ). part image p 8) (sym place-is) ∙ part-same image old place 8 (omega (arith, n.long, l.no_shorter)) (omega (arith, n.long)) agree ∙ ap (λ (p : ℕ). part old p 8) place-is)) was in
-      elim (l.lines (place / 64)) [
-        | inl kept ↦ as_old (λ i lo hi. kept i (omega arith) (omega arith) (omega (arith, n.long)))
-        | inr new ↦ elim put [
-          | inl before ↦ as_old (λ i lo hi. new i (omega arith) (omega arith) (omega (arith, n.long)) ∙ written_before old at bytes i (omega arith))
-          | inr put ↦ elim put [
-            | inl after ↦ as_old (λ i lo hi. new i (omega arith) (omega arith) (omega (arith, n.long)) ∙ written_after old at bytes i (omega arith))
-            | inr put ↦
+      elim put [
+        | inl before ↦ as_old (λ i lo hi. kept i (omega arith) (inl (omega arith)))
+        | inr put ↦ elim put [
+          | inl after ↦ as_old (λ i lo hi. kept i (omega arith) (inr (omega arith)))
+          | inr put ↦ elim (l.lines (place / 64)) [
+            | inl was ↦ as_old (λ i lo hi. was i (omega arith) (omega arith) (omega (arith, n.long)))
+            | inr new ↦
                 let low = put.0 in
                 let high = put.1 in
                 subst holds (sym (part-moved image bytes (head + 8 + 8 * k) (head + 8 + 8 * k - at) 8 (omega (arith, n.long, l.no_shorter)) (omega arith) (λ i lt.
                 new (head + 8 + 8 * k + i) (omega arith) (omega arith) (omega (arith, n.long))
-                ∙ written_inside old at bytes (head + 8 + 8 * k + i) (omega arith) (omega arith)
+                ∙ written_inside at bytes old (head + 8 + 8 * k + i) (omega (arith, n.long)) (omega arith) (omega arith)
                 ∙ ap (λ (p : ℕ). get_or bytes p 0) (let e : head + 8 + 8 * k + i - at ≡ head + 8 + 8 * k - at + i = omega arith in e)))) put.2
           ]
         ]

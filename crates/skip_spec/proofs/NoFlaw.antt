@@ -14,7 +14,7 @@ use Rattle.skip_form.specs.declared.header.Header.{Header}
 use Rattle.skip_form.specs.Fields.{pointer_in}
 use Rattle.skip_form.specs.Flaws.{header_flaw, header_in, head_in, opening_in, is_kind_at, is_level, is_extended}
 use Rattle.skip_form.specs.Spelling.{StandsAt, type_byte, IsLevelOf}
-use Rattle.skip_form.proofs.Parts.{AreBytes}
+use Rattle.base_core.specs.Fields.{AreBytes}
 use Rattle.skip_form.proofs.HeaderLemmas.{header_flaw-header_bytes}
 use Rattle.skip_form.proofs.HeadLemmas.{head_flaw-StandsAt}
 use Rattle.skip_spec.specs.Records.{HasKind, HeadCheckIsRight, TailCheckIsRight}

@@ -3,7 +3,8 @@ use Rattle.std.proofs.Common.{◌≡◌, ℕ, zero, suc, ◌+◌, ◌≤◌, Lis
 use Rattle.std.proofs.lemmas.Bool.{cases_lt, le-ltb, eqb-true}
 use Rattle.check_word.specs.CheckWord.{after_byte, after_bits, after_bit}
 use Rattle.skip_form.specs.declared.head.Kind.TheVariants.{Put, Commit, Dummy}
-use Rattle.skip_form.specs.Fields.{pointer_in, part, u16_in, u32_in, u64_in}
+use Rattle.base_core.specs.Fields.{part, u32_in, u64_in}
+use Rattle.skip_form.specs.Fields.{pointer_in, u16_in}
 use Rattle.skip_form.specs.Spelling.{header_bytes}
 use Rattle.skip_spec.specs.Chain.{Entry}
 use Rattle.skip_spec.specs.Opens.{Contents, Reads, Tidy, Links, on_level, Opens}

@@ -7,7 +7,8 @@ use Rattle.base_core.specs.OrderedMap.{IsBelow, BeginsAbove}
 use Rattle.check_word.specs.CheckWord.{check_word}
 use Rattle.skip_form.specs.declared.head.Head.{Head}
 use Rattle.skip_form.specs.declared.head.Kind.TheVariants.{Dummy, Put, Gone}
-use Rattle.skip_form.specs.Fields.{part, u32_in, u64_in, pointer_in}
+use Rattle.base_core.specs.Fields.{part, u32_in, u64_in}
+use Rattle.skip_form.specs.Fields.{pointer_in}
 use Rattle.skip_form.specs.Flaws.{head_in}
 use Rattle.skip_spec.specs.Records.{HasKind, TailCheckIsRight, key_in, head_size_of, body_size_of}
 use Rattle.skip_spec.specs.Rows.{IsAmong, Rows}

@@ -9,7 +9,8 @@ use Rattle.base_core.specs.declared.flaw.Damage.{Damage}
 use Rattle.check_word.specs.CheckWord.{check_word}
 use Rattle.skip_form.specs.declared.head.Kind as kinds
 use Rattle.skip_form.specs.declared.head.Kind.TheVariants.{Put, Gone, Commit}
-use Rattle.skip_form.specs.Fields.{part, u32_in, pointer_in}
+use Rattle.base_core.specs.Fields.{part, u32_in}
+use Rattle.skip_form.specs.Fields.{pointer_in}
 use Rattle.skip_form.specs.Flaws.{header_flaw, header_in, opening_in, head_in, is_kind_at, is_level, is_extended}
 use Rattle.skip_form.specs.Spelling.{type_byte}
 use Rattle.skip_spec.specs.Records.{head_size_of, body_size_of, key_in, value_in}

@@ -1,11 +1,12 @@
 -- Laws of files and images.
-use Rattle.std.specs.Prelude.{◌≡◌, ◌↔◌, ◌≤◌, ℕ, List, [], ◌∷◌, ◌++◌, take, Option, None, ◌<◌, slice_index}
+use Rattle.std.specs.Prelude.{◌≡◌, ◌↔◌, ◌≤◌, ℕ, List, [], ◌∷◌, ◌++◌, take, Option, None}
+use Rattle.base_core.specs.Fields.{AreBytes}
 use Rattle.base_core.specs.OrderedMap.{Map, IsOrderedMap, IsBelow, BeginsAbove}
+use Rattle.base_core.specs.Landing.{Lands}
 use Rattle.base_core.specs.declared.flaw.Damage.{Damage}
 use Rattle.skip_spec.specs.FirstFlaw.{FirstFlaw}
 use Rattle.skip_spec.specs.Opens.{Contents, Reads, Means, OnlyLevelOne, Opens, HasDirty}
 use Rattle.skip_spec.specs.Near.{Near, IsPermittedWrite}
-use Rattle.skip_spec.specs.Landing.{Lands}
 use Rattle.skip_spec.specs.Successor.{IsSuccessorUnder}
 use Rattle.skip_spec.specs.Chain.{Entry, Chain, StandsAsEntry, pairs}
 use Rattle.skip_spec.specs.Change.{Changes, first_at, last_at, last_key}
@@ -79,10 +80,6 @@ DeleteGivesChain =
     → Chain new bound' starts' 64 [] (front ++ rest)
 
 -- ---- of verification
-
--- each element is a byte
-abbrev pub AreBytes : List ℕ → Type 0
-AreBytes file = (i : ℕ) → slice_index file i < 256
 
 -- verification finds no flaw exactly where the file opens to some map
 abbrev pub FlawlessOpens : Type 0

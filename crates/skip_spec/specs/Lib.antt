@@ -2,7 +2,6 @@ pub mod Chain
 pub mod Change
 pub mod Examples
 pub mod FirstFlaw
-pub mod Landing
 pub mod Laws
 pub mod MapOf
 pub mod Near

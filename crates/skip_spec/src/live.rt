@@ -6,8 +6,8 @@ ghost use Rattle.skip_spec.specs.Records.{key_in, value_in};
 ghost use Rattle.skip_spec.specs.Chain.{Entry};
 ghost use Rattle.skip_spec.specs.FirstFlaw.{is_dirty, is_zero, is_below, is_padding_right, lead_to, latest_key, dummy_flaw, live_flaw, end_flaw};
 
-use crate::words::{head_size, is_head_right, is_tail_right, part};
-use base_core::{Damage, Flaw, compare_keys};
+use crate::words::{head_size, is_head_right, is_tail_right};
+use base_core::{Damage, Flaw, compare_keys, part_at};
 use skip_form::{Head, head_at, pointer, read_header};
 
 /// The head of the record at an offset at which there is one.
@@ -27,7 +27,7 @@ pub(crate) fn key<'a>(file: &'a [u8], at: usize, head: &Head) -> &'a [u8]
     requires inside { at + head.now.size ≤ length file.now }
     ensures { result.now ≡ key_in file.now at }
 {
-    part(file, at + head_size(head), head.key_len as usize)
+    part_at(file, at + head_size(head), head.key_len as usize)
 }
 
 /// The value of the record at an offset.
@@ -37,7 +37,7 @@ pub(crate) fn value<'a>(file: &'a [u8], at: usize, head: &Head) -> &'a [u8]
     ensures { result.now ≡ value_in file.now at }
 {
     let place = at + head_size(head) + head.key_len as usize;
-    part(file, place, head.value_len as usize)
+    part_at(file, place, head.value_len as usize)
 }
 
 /// Each byte is zero.
@@ -55,7 +55,7 @@ fn is_padding_right(file: &[u8], at: usize, head: &Head) -> bool
 {
     let used = (head.key_len + head.value_len) as usize;
     let body = head.size as usize - head_size(head);
-    are_zeros(part(file, at + head_size(head) + used, body - used))
+    are_zeros(part_at(file, at + head_size(head) + used, body - used))
 }
 
 /// The key of a record is above that of another.

@@ -1,30 +1,13 @@
 // The check words of a record.
 ghost use Rattle.std.specs.Prelude.{◌≡◌, ◌+◌, ◌≤◌, length, None};
-ghost use Rattle.skip_form.specs.Fields.{part, u32_in};
 ghost use Rattle.skip_form.specs.Flaws.{head_flaw, head_in};
 ghost use Rattle.skip_form.specs.Sizes as sizes;
 ghost use Rattle.skip_spec.specs.Records.{head_size_of};
 ghost use Rattle.skip_spec.specs.FirstFlaw.{is_head_right, is_tail_right};
 
+use base_core::{part_at, u32_at};
 use check_word::check;
 use skip_form::Head;
-
-/// So many bytes of a file, from an offset on.
-#[tactic(auto, unfolding(skip_form::specs::Fields::part))]
-pub(crate) fn part(file: &[u8], at: usize, count: usize) -> &[u8]
-    requires { at + count ≤ length file.now }
-    ensures { result.now ≡ part file.now at count }
-{
-    &file[at..at + count]
-}
-
-/// The big-endian number of 32 bits at an offset.
-fn word(file: &[u8], at: usize) -> u32
-    requires { at + 4 ≤ length file.now }
-    ensures { result ≡ u32_in (part file.now at 4) }
-{
-    u32::from_be_bytes([file[at], file[at + 1], file[at + 2], file[at + 3]])
-}
 
 /// How many bytes stand before the key.
 pub(crate) fn head_size(head: &Head) -> usize
@@ -40,7 +23,7 @@ pub(crate) fn is_head_right(file: &[u8], at: usize, head: &Head) -> bool
     ensures { result ≡ is_head_right file.now at }
 {
     let size = head_size(head) - 8;
-    word(file, at + size) == check(part(file, at, size))
+    u32_at(file, at + size) == check(part_at(file, at, size))
 }
 
 /// The tail check of the record at an offset is right.
@@ -51,5 +34,5 @@ pub(crate) fn is_tail_right(file: &[u8], at: usize, head: &Head) -> bool
 {
     let size = head_size(head);
     let body = head.size as usize - size;
-    word(file, at + (size - 4)) == check(part(file, at + size, body))
+    u32_at(file, at + (size - 4)) == check(part_at(file, at + size, body))
 }

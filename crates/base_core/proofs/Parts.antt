@@ -5,11 +5,9 @@ use Rattle.std.proofs.lemmas.Bool.{cases_lt}
 use Rattle.std.proofs.lemmas.List.{drop_more, length-take, length-drop, get_or-take, get_or-drop, get_or_past, drop-drop}
 use Rattle.std.proofs.lemmas.Nat.{be_bytes_4, be_bytes_8}
 use Rattle.std.proofs.Math.Seq.{take-add}
-use Rattle.index_form.specs.Fields.{part, u32_in, u64_in}
+use Rattle.base_core.specs.Fields.{AreBytes, part, u32_in, u64_in}
 
--- each element is a byte
-abbrev pub IsBytes : List ℕ → Type 0
-IsBytes bytes = (i : ℕ) → get_or bytes i 0 < 256
+-- ---- parts
 
 pub part-suc : (b : List ℕ) (at next count : ℕ) → next ≡ at + 1 → at < length b → part b at (suc count) ≡ get_or b at 0 ∷ part b next count
 unfolding part
@@ -46,30 +44,41 @@ pub length-part : (b : List ℕ) (at count : ℕ) → at + count ≤ length b �
 unfolding part
 length-part b at count within = omega (arith, length-take count (drop at b), length-drop at b)
 
-pub IsBytes-part : (b : List ℕ) (at count : ℕ) → IsBytes b → IsBytes (part b at count)
+pub AreBytes-part : (b : List ℕ) (at count : ℕ) → AreBytes b → AreBytes (part b at count)
 unfolding part
-IsBytes-part b at count fits i = elim (cases_lt i count) [
+AreBytes-part b at count fits i = elim (cases_lt i count) [
   | inl lt ↦ rw (get_or-take count (drop at b) i 0 lt, get_or-drop at b i 0) (fits (at + i))
   | inr le ↦ rw (get_or_past (take count (drop at b)) i 0 (omega (arith, length-take count (drop at b)))) (omega arith)
 ]
 
-pub IsBytes-drop : (at : ℕ) (b : List ℕ) → IsBytes b → IsBytes (drop at b)
-IsBytes-drop at b fits i = rw (get_or-drop at b i 0) (fits (at + i))
+-- ---- numbers
 
 -- the number's bytes are those that stand there
-
-pub to_be_bytes-u32_in : (b : List ℕ) (at : ℕ) → IsBytes b → at + 4 ≤ length b → to_be_bytes w32 (u32_in (part b at 4)) ≡ part b at 4
+pub to_be_bytes-u32_in : (b : List ℕ) (at : ℕ) → AreBytes b → at + 4 ≤ length b → to_be_bytes w32 (u32_in (part b at 4)) ≡ part b at 4
 unfolding u32_in
-to_be_bytes-u32_in b at fits within = be_bytes_4 (part b at 4) _ (length-part b at 4 within) (IsBytes-part b at 4 fits) refl
+to_be_bytes-u32_in b at fits within = be_bytes_4 (part b at 4) _ (length-part b at 4 within) (AreBytes-part b at 4 fits) refl
 
-pub to_be_bytes-u64_in : (b : List ℕ) (at : ℕ) → IsBytes b → at + 8 ≤ length b → to_be_bytes w64 (u64_in (part b at 8)) ≡ part b at 8
+pub to_be_bytes-u64_in : (b : List ℕ) (at : ℕ) → AreBytes b → at + 8 ≤ length b → to_be_bytes w64 (u64_in (part b at 8)) ≡ part b at 8
 unfolding u64_in
-to_be_bytes-u64_in b at fits within = be_bytes_8 (part b at 8) _ (length-part b at 8 within) (IsBytes-part b at 8 fits) refl
+to_be_bytes-u64_in b at fits within = be_bytes_8 (part b at 8) _ (length-part b at 8 within) (AreBytes-part b at 8 fits) refl
 
-pub u32_in-lt : (b : List ℕ) (at : ℕ) → IsBytes b → u32_in (part b at 4) < 2 ^ 32
+pub u32_in-lt : (b : List ℕ) (at : ℕ) → AreBytes b → u32_in (part b at 4) < 2 ^ 32
 unfolding u32_in
-u32_in-lt b at fits = let f = IsBytes-part b at 4 fits in omega (arith, f 0, f 1, f 2, f 3)
+u32_in-lt b at fits = let f = AreBytes-part b at 4 fits in omega (arith, f 0, f 1, f 2, f 3)
 
-pub u64_in-lt : (b : List ℕ) (at : ℕ) → IsBytes b → u64_in (part b at 8) < 2 ^ 64
+pub u64_in-lt : (b : List ℕ) (at : ℕ) → AreBytes b → u64_in (part b at 8) < 2 ^ 64
 unfolding u64_in
-u64_in-lt b at fits = let f = IsBytes-part b at 8 fits in omega (arith, f 0, f 1, f 2, f 3, f 4, f 5, f 6, f 7)
+u64_in-lt b at fits = let f = AreBytes-part b at 8 fits in omega (arith, f 0, f 1, f 2, f 3, f 4, f 5, f 6, f 7)
+
+-- ---- joined lists
+
+-- two joined lists whose first parts are equally long
+pub append_parts : (a b x y : List ℕ) → length a ≡ length b → a ++ x ≡ b ++ y → (a ≡ b) × (x ≡ y)
+append_parts [] [] x y l e = (refl, e)
+append_parts [] (b ∷ bs) x y l e = absurd (omega (arith, l))
+append_parts (a ∷ as') [] x y l e = absurd (omega (arith, l))
+append_parts (a ∷ as') (b ∷ bs) x y l e =
+    let head : a ≡ b = cc in
+    let tail : as' ++ x ≡ bs ++ y = cc in
+    let rest = append_parts as' bs x y (omega (arith, l)) tail in
+    (let first = rest.0 in cc, rest.1)

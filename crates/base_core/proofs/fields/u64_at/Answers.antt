@@ -1,7 +1,7 @@
 use Rattle.std.proofs.Common.{ap, sym, ◌∙◌}
-use Rattle.skip_form.specs.Fields.{u64_in}
-use Rattle.skip_form.proofs.Parts.{part-8}
-use Rattle.skip_form.proofs.fields.u64_at.Goals as goal
+use Rattle.base_core.specs.Fields.{u64_in}
+use Rattle.base_core.proofs.Parts.{part-8}
+use Rattle.base_core.proofs.fields.u64_at.Goals as goal
 
 pub returns : goal.returns
 unfolding u64_in
