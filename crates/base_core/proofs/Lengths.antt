@@ -20,3 +20,7 @@ told_length (Some main) size is told = let there = there_length main (Some size)
 -- and each offset up to it is in the main file or at its end
 pub told_offset : (reads : Option Image) (size at : ℕ) → ((main : Image) → reads ≡ Some main → IsLength main (Some size)) → at ≤ size → IsSome reads → HasOffset reads at
 told_offset reads size at is inside told = let there = told_length reads size is told in (there.0, there.1, omega (arith, there.2, inside))
+
+-- where a length was answered, the main file is not absent
+pub told_there : (reads : Option Image) (size : ℕ) → ((main : Image) → reads ≡ Some main → IsLength main (Some size)) → reads ≡ Some None → ⊥
+told_there reads size is absent = absurd (cc (is None absent))

@@ -1,12 +1,11 @@
 -- Calls of a disk in memory that note one step.
-use Rattle.std.proofs.Common.{◌≡◌, ◌⊎◌, ℕ, ◌≤◌, List, ◌++◌, ◌∷◌, [], refl, sym, ◌∙◌, ap, subst}
+use Rattle.std.proofs.Common.{◌≡◌, ◌⊎◌, ◌≤◌, ◌++◌, ◌∷◌, [], sym, subst}
 use Rattle.base_core.specs.CrashImages.{GoesOn}
-use Rattle.base_core.specs.DiskCalls.{DiskCall}
-use Rattle.disk_kinds.specs.History.{Step, Moment, moment_step, moment_after, first_moment, start_image, fresh_of}
+use Rattle.disk_kinds.specs.History.{Step, first_moment, start_image, fresh_of}
 use Rattle.disk_kinds.specs.CallLog.{log_steps, SameBounds}
-use Rattle.disk_kinds.specs.Memory.{MemRest, mem_state, state_of, now_of, stop_of}
+use Rattle.disk_kinds.specs.Memory.{MemRest, mem_state, state_of, stop_of}
 use Rattle.disk_kinds.specs.declared.memory.MemDisk.{MemDisk}
-use Rattle.disk_kinds.proofs.Time.{goes_on, after_one, call_one_more}
+use Rattle.disk_kinds.proofs.Time.{goes_on}
 
 -- what the call keeps of a disk, where it notes this step or none
 pub rest_after : (old new : MemDisk) (step : Step) → new.start ≡ old.start → (log_steps new.log ≡ log_steps old.log ++ step ∷ []) ⊎ (log_steps new.log ≡ log_steps old.log)

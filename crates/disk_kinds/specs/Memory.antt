@@ -1,5 +1,5 @@
 -- A disk in memory as its trait sees it, and when its calls fail.
-use Rattle.std.specs.Prelude.{◌≡◌, ◌⊎◌, ◌↔◌, ℕ, ◌+◌, ◌-◌, ◌<◌, ◌≤◌, ◌^◌, ◌*◌, min, max, List, Option, Some, None, Result, OnOk, OnErr, Contains, length, take}
+use Rattle.std.specs.Prelude.{◌≡◌, ◌⊎◌, ◌↔◌, ℕ, ◌+◌, ◌-◌, ◌<◌, ◌≤◌, ◌^◌, ◌*◌, min, max, List, Option, Some, Result, OnOk, OnErr, Contains, length, take}
 use Rattle.std.proofs.Common.{inl, refl}
 use Rattle.base_core.specs.CrashImages.{Image, Fresh, DiskState, IsMoment, GoesOn, LeavesOnly}
 use Rattle.base_core.specs.DiskCalls.{OnFile, new_image}

@@ -1,5 +1,5 @@
 -- A record of calls that is played again, to see what a stop leaves.
-use Rattle.std.specs.Prelude.{◌≡◌, ℕ, Bool, List, drop}
+use Rattle.std.specs.Prelude.{◌≡◌, Bool, List, drop}
 use Rattle.disk_kinds.specs.History.{Moment, landing_count}
 use Rattle.disk_kinds.specs.Left.{with_changes}
 use Rattle.disk_kinds.specs.ReplaySteps.{main_of, left_of}
