@@ -4,6 +4,7 @@
 mod action;
 mod bytes;
 mod disk;
+mod escapes;
 mod flaw;
 mod host;
 mod limits;
@@ -12,10 +13,13 @@ mod pair;
 mod pieces;
 mod status;
 mod steps;
+#[cfg(test)]
+mod tests;
 
 pub use action::{Action, Backend, Options};
 pub use bytes::{Bytes, NoMemory, Text};
 pub use disk::{Disk, Failed};
+pub use escapes::{Escaped, bad_escape, escape_into, escaped_size, fields_read_back, unescape};
 pub use flaw::{Damage, Flaw};
 pub use host::Host;
 pub use limits::{
