@@ -1,3 +1,5 @@
+pub mod EscapeLaws
+pub mod EscapeLemmas
 pub mod Landings
 pub mod Lengths
 pub mod Moments

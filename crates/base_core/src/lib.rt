@@ -4,6 +4,7 @@
 mod action;
 mod bytes;
 mod disk;
+mod escapes;
 mod fields;
 mod flaw;
 mod host;
@@ -13,10 +14,13 @@ mod pair;
 mod pieces;
 mod status;
 mod steps;
+#[cfg(test)]
+mod tests;
 
 pub use action::{Action, Backend, Options};
 pub use bytes::{Bytes, NoMemory, Text};
 pub use disk::{Disk, Failed};
+pub use escapes::{Escaped, bad_escape, escape_into, escaped_size, fields_read_back, unescape};
 pub use fields::{part_at, u32_at, u64_at};
 pub use flaw::{Damage, Flaw};
 pub use host::Host;
