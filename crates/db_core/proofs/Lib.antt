@@ -1,0 +1,3 @@
+pub mod DbLemmas
+pub mod MemoryLemmas
+pub mod Trees

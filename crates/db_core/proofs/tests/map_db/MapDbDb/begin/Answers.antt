@@ -1,0 +1,12 @@
+use Rattle.std.proofs.Common.{map, refl}
+use Rattle.db_core.proofs.Trees.{tree_clone}
+use Rattle.db_core.proofs.MemoryLemmas.{begun_memory}
+use Rattle.db_core.proofs.tests.map_db.MapDbDb.begin.Goals as goal
+
+pub returns-in-Ok-clause-answer : goal.returns-in-Ok-clause-answer
+returns-in-Ok-clause-answer g c = record {
+  ok = refl;
+  done = begun_memory c.args.self.now.in_transaction _ (map (λ e. (e.0.items, e.1.items)) c.args.self.now.saved.entries) _ c.args.self.now.changes c.args.self.now.saved_changes c.args.self.now.has_changed (c.requires refl) (tree_clone _ _ c.in-Ok.ensures.cases);
+  refused = tt;
+  after = tt;
+}

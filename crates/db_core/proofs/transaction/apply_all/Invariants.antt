@@ -1,0 +1,20 @@
+use Rattle.std.proofs.Common.{◌≡◌, false, drop}
+use Rattle.db_core.specs.Answers.{OnDisk}
+use Rattle.db_core.specs.WholeTransactions.{InTransaction, changes_after, changes_refusal}
+use Rattle.db_core.proofs.transaction.apply_all.Given as goal
+
+abbrev pub invariant-loop-change : goal.invariant-loop-change
+invariant-loop-change g l =
+    let kind = g.B.Db.kind in
+    let start = g.B.Db.state l.initial.db in
+    let now = g.B.Db.state l.db in
+    record {
+      sound : now.is_broken ≡ false;
+      over : InTransaction start now;
+      after : changes_after kind start l.changes ≡ changes_after kind now (drop l.change-index l.changes);
+      refusal : changes_refusal kind start l.changes ≡ changes_refusal kind now (drop l.change-index l.changes);
+      tied : g.B.Db.tie l.db l.disk;
+      disk : OnDisk kind start (λ c. kind.opens c start.committed) (g.D.Disk.state l.initial.disk) (g.D.Disk.state l.disk);
+      faults : (g.D.Disk.state l.disk).faults ≡ (g.D.Disk.state l.initial.disk).faults;
+      rest : g.D.Disk.disk_rest l.initial.disk l.disk;
+    }

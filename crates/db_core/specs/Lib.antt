@@ -1,0 +1,4 @@
+pub mod Answers
+pub mod MemorySessions
+pub mod Sessions
+pub mod WholeTransactions

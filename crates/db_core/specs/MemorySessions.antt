@@ -1,0 +1,57 @@
+-- A session that keeps its maps in memory, by its parts.
+use Rattle.std.proofs.Common.{◌≡◌, ℕ, Bool, true, false, refl}
+use Rattle.std.specs.Prelude.{◌+◌, ◌&&◌, None, if◌then◌else◌}
+use Rattle.base_core.specs.CrashImages.{DiskState, IsMoment}
+use Rattle.base_core.specs.OrderedMap.{Map}
+use Rattle.db_core.specs.Sessions.{DbKind, DbState, aborted}
+
+-- A kind whose files stand for every map, and have a byte for each change that was made.
+abbrev pub counting_kind : ℕ → DbKind
+counting_kind limit = record {
+  opens = λ _ _. Unit {0};
+  limit = limit;
+  load_after = λ _ load _. load + 1;
+  size_after = λ _ load _. load + 1;
+  load_committed = λ load. load;
+  works_in_place = true;
+}
+
+-- its state: whether a transaction stands, the map seen and the one that it goes back to, their loads, and whether something changed
+abbrev pub memory_state : Bool → Map → Map → ℕ → ℕ → Bool → DbState
+memory_state b seen saved load saved_load changed = record {
+  seen = seen;
+  committed = if b then saved else seen;
+  load = load;
+  load_committed = if b then saved_load else load;
+  in_transaction = b;
+  has_changed = b && changed;
+  is_broken = false;
+}
+
+-- outside a transaction it goes back to what is seen
+pub outside_same : (b : Bool) (seen saved : Map) (load saved_load : ℕ) (changed : Bool) → b ≡ false → aborted (memory_state b seen saved load saved_load changed) ≡ memory_state b seen saved load saved_load changed
+outside_same true seen saved load saved_load changed closed = absurd (cc closed)
+outside_same false seen saved load saved_load changed closed = refl
+
+-- A disk that tells nothing but how often it failed.
+abbrev pub silent : ℕ → DiskState
+silent faults = record {
+  reads = None;
+  leaves = λ _. ⊥;
+  clock = 0;
+  mark = 0;
+  left_since = λ _ _ _. ⊥;
+  fresh = None;
+  faults = faults;
+  written = 0;
+  publishes = 0;
+}
+
+pub silent_moment : (faults : ℕ) → IsMoment (silent faults)
+silent_moment faults = record {
+  now = λ c n left. absurd left;
+  counts_now = λ c left. left;
+  earlier = λ t u c n _ _ left. left;
+  reads_left = λ c is. cc;
+  tells = λ t c n left. absurd left;
+}

@@ -1,0 +1,15 @@
+//! An ordered database over a disk, as a trait, and whole transactions over it.
+#![tactic(auto)]
+
+mod change;
+mod db;
+mod fault;
+mod transaction;
+
+pub use change::Change;
+pub use db::Db;
+pub use fault::{DbFault, OpenFault};
+pub use transaction::run_changes;
+
+#[cfg(test)]
+mod tests;

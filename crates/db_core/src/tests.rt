@@ -1,0 +1,4 @@
+// Whole transactions over a session in memory.
+mod changes;
+mod map_db;
+mod no_disk;
