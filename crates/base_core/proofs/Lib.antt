@@ -3,3 +3,4 @@ pub mod EscapeLemmas
 pub mod Landings
 pub mod Lengths
 pub mod Moments
+pub mod OrderedMaps
