@@ -1,16 +1,17 @@
 -- What the main file reads asks for one note.
-use Rattle.std.proofs.Common.{◌≡◌, ◌⊎◌, inl, inr, ⊎_elim, ℕ, ◌<◌, ◌≤◌, List, Option, None, Some, length, refl, sym, ◌∙◌, ap, subst, arith}
+use Rattle.std.proofs.Common.{◌≡◌, ◌⊎◌, inl, inr, ℕ, ◌≤◌, List, Option, None, Some, length, refl, sym, ◌∙◌, ap, subst, arith}
 use Rattle.base_core.specs.CrashImages.{Image}
 use Rattle.base_core.specs.OrderedMap.{Map, put}
 use Rattle.base_core.specs.declared.limits.TheConstants.{FLAT_LIMIT}
 use Rattle.base_core.specs.declared.flaw.Flaw.{Flaw}
+use Rattle.base_core.specs.declared.flaw.Damage.{Damage}
 use Rattle.base_core.specs.declared.note.Note.{Note}
 use Rattle.base_core.specs.declared.note.Note.TheVariants.{Done, Absent, Limit, Memory, Damaged, DeviceFault}
 use Rattle.base_core.specs.declared.note.LimitName.TheVariants.{File}
 use Rattle.base_core.specs.declared.note.Device.TheVariants.{Host}
-use Rattle.flat_db.specs.FlatText.{FlatTextOf, IsFirstUnplain, canonical_text}
+use Rattle.flat_db.specs.FlatText.{FlatTextOf, IsFlawedAt, canonical_text}
 use Rattle.flat_db.specs.SetPair.{IsSet, IsTooBig, IsDamaged, IsFull}
-use Rattle.flat_db.proofs.TextLaws.{text_is_one_map, first_flaw}
+use Rattle.flat_db.proofs.TextLaws.{text_is_one_map, first_flaw_is_one, flaw_or_map}
 use Rattle.cyr_top.specs.StatedResult.{IsStated, IsCause, IsFault}
 
 same_text : (main : Image) (a b : List ℕ) → main ≡ Some a → main ≡ Some b → a ≡ b
@@ -24,9 +25,9 @@ module _ (key value : List ℕ) (main : Image) where
   too_big : (number : ℕ) (text : List ℕ) → IsTooBig main number → main ≡ Some text → length text ≤ FLAT_LIMIT → ⊥
   too_big number text big there within = absurd (omega (arith, big.over, big.counted, within, ap length (same_text main big.text text big.there there)))
 
-  -- a text with a line that is not plain is that of no map
+  -- a text with a flaw is that of no map
   flawed : (at : ℕ) (found : Flaw) (text : List ℕ) (m : Map) → IsDamaged main at found → main ≡ Some text → FlatTextOf text m → ⊥
-  flawed at found text m damaged there of = first_flaw.no_map text at m (subst (λ (l : List ℕ). IsFirstUnplain l at) (same_text main damaged.text text damaged.there there) damaged.first) of
+  flawed at found text m damaged there of = flaw_or_map text (record { at = at; check = found }) of.pairs (subst (λ (l : List ℕ). IsFlawedAt l (record { at = at; check = found })) (same_text main damaged.text text damaged.there there) damaged.first) of.lines
 
   -- the size with the pair put is one
   one_size : (text other : List ℕ) (m n : Map) → main ≡ Some text → main ≡ Some other → FlatTextOf text m → FlatTextOf other n → length (canonical_text (put m key value)) ≡ length (canonical_text (put n key value))
@@ -75,8 +76,15 @@ module _ (key value : List ℕ) (main : Image) where
     where
       one_flaw : (at other : ℕ) (found flaw : Flaw) → IsDamaged main at found → IsDamaged main other flaw → Damaged at found ≡ Damaged other flaw
       one_flaw at other found flaw first second =
-          let place : at ≡ other = first_flaw.place second.text at other (subst (λ (l : List ℕ). IsFirstUnplain l at) (same_text main first.text second.text first.there second.there) first.first) second.first in
-          cc (place, first.unbuilt, second.unbuilt)
+          let same : Some one ≡ Some two = first_flaw_is_one second.text (Some one) (Some two) (subst (λ (l : List ℕ). IsFlawedAt l one) (same_text main first.text second.text first.there second.there) first.first) second.first in
+          let both : one ≡ two = cc same in
+          ap (λ (d : Damage). Damaged d.at d.check) both
+        where
+          one : Damage
+          one = record { at = at; check = found }
+
+          two : Damage
+          two = record { at = other; check = flaw }
   stated_exactly Done wanted reads is asked = absurd asked
   stated_exactly Absent wanted reads is asked = absurd asked
   stated_exactly (Limit File number) wanted reads is asked = absurd asked

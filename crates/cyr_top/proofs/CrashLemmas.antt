@@ -1,23 +1,22 @@
 -- What may be left of a run, in words of maps and transactions.
-use Rattle.std.proofs.Common.{◌≡◌, ◌⊎◌, inl, inr, ⊎_elim, ℕ, ◌≤◌, Bool, true, false, List, [], ◌∷◌, Option, None, Some, length, refl, sym, ◌∙◌, ap, subst, arith}
+use Rattle.std.proofs.Common.{◌≡◌, ◌⊎◌, ⊎_elim, ℕ, Bool, true, false, List, [], ◌∷◌, Option, None, Some, refl, sym, subst, arith}
 use Rattle.std.specs.Prelude.{if◌then◌else◌}
 use Rattle.base_core.specs.CrashImages.{Image, DiskState, GoesOn, LeavesOnly, IsMoment, IsDurable, SameDisk, StaysAs}
 use Rattle.base_core.specs.OrderedMap.{Map, put}
-use Rattle.base_core.specs.Transactions.{after_first, after_transactions}
+use Rattle.base_core.specs.Transactions.{after_transactions}
 use Rattle.base_core.specs.declared.action.Backend.{Backend}
-use Rattle.base_core.specs.declared.action.Backend.TheVariants.{Flat, Twoskip}
-use Rattle.base_core.specs.declared.action.Action.{Action}
+use Rattle.base_core.specs.declared.action.Backend.TheVariants.{Flat}
 use Rattle.base_core.specs.declared.action.Action.TheVariants.{Set}
-use Rattle.base_core.specs.declared.limits.TheConstants.{FLAT_LIMIT}
-use Rattle.flat_db.specs.FlatText.{FlatTextOf, canonical_text}
+use Rattle.flat_db.specs.FlatText.{canonical_text}
 use Rattle.flat_db.specs.SetPair.{IsSet}
 use Rattle.flat_db.proofs.SettingLemmas.{some_of}
-use Rattle.flat_db.proofs.TextLaws.{text_is_one_map, put_text}
+use Rattle.flat_db.proofs.Canonical.{put_reads_back}
+use Rattle.flat_db.proofs.TextLaws.{text_is_one_map}
 use Rattle.cyr_top.specs.declared.jobs.Job.{Job}
 use Rattle.cyr_top.specs.declared.jobs.Job.TheVariants.{Dbtool}
 use Rattle.cyr_top.specs.JobOf.{job_of, asks_set, set_job, CanSet, CanDo}
-use Rattle.cyr_top.specs.Opened.{Opens, OpensWithin, EachOpens, KeepsPrefix, backend_of, transactions_of}
-use Rattle.cyr_top.specs.StatedResult.{SetsPair, LeftByJob}
+use Rattle.cyr_top.specs.Opened.{OpensWithin, EachOpens, KeepsPrefix, backend_of, transactions_of}
+use Rattle.cyr_top.specs.StatedResult.{LeftByJob}
 use Rattle.cyr_top.proofs.WordLemmas.{can_set}
 
 -- a job that words stand for can be done
@@ -41,7 +40,7 @@ set_opens key value main after m can opens set =
     let was : OpensWithin Flat (Some set.text) m = subst (λ (i : Image). OpensWithin Flat i m) set.there opens in
     let same : set.map ≡ m = text_is_one_map set.text set.map m set.text_of was.opens in
     let now : OpensWithin Flat (Some (canonical_text (put set.map key value))) (put set.map key value) =
-    record { opens = put_text set.text key value set.map can.some can.plain_key can.plain_value set.text_of; within = set.fits } in
+    record { opens = put_reads_back set.text key value set.map can.some set.text_of; within = set.fits } in
     subst (λ (i : Image). OpensWithin Flat i (put m key value)) (sym set.done)
     (subst (λ (n : Map). OpensWithin Flat (Some (canonical_text (put set.map key value))) (put n key value)) same now)
 

@@ -1,12 +1,10 @@
 -- Words by their number, and what the tests of a pair say.
-use Rattle.std.proofs.Common.{◌≡◌, ◌⊎◌, inl, inr, ℕ, zero, suc, ◌<◌, ◌≤◌, Bool, true, false, List, [], ◌∷◌, length, get_or, Option, Some, None, String, map, string_bytes, refl, sym, ◌∙◌, ap, arith}
+use Rattle.std.proofs.Common.{◌≡◌, ℕ, ◌<◌, ◌≤◌, Bool, true, false, List, [], ◌∷◌, length, get_or, Some, None, String, map, string_bytes, refl, ◌∙◌, ap, arith}
 use Rattle.std.specs.declared.alloc.Global.{Global}
 use Rattle.std.specs.Prelude.{◌&&◌, nat_lt, nat_le, if◌then◌else◌}
-use Rattle.std.specs.List.{list_all}
 use Rattle.base_core.specs.OrderedMap.{IsBelow}
 use Rattle.base_core.specs.declared.limits.TheConstants.{KEY_LIMIT, VALUE_LIMIT}
-use Rattle.flat_db.specs.FlatText.{is_plain_byte, IsPlain}
-use Rattle.cyr_top.specs.JobOf.{job_of, asks_set, set_job, is_key, is_value, is_operand, CanSet}
+use Rattle.cyr_top.specs.JobOf.{job_of, asks_set, set_job, CanSet}
 
 -- a list of six, by its members
 six : {A : Type 0} (ws : List A) (a b c d e f : A) → length ws ≡ 6
@@ -42,13 +40,10 @@ pub can_set : (tool file backend action key value : List ℕ) → asks_set tool 
 can_set tool file backend action key value asks =
     let value_fits = second_of _ _ asks in
     let key_fits = second_of _ _ (first_of _ _ asks) in
-    let key_sized = first_of _ _ key_fits in
     record {
-      some = some_below key (lt_of 0 (length key) (first_of _ _ key_sized));
-      plain_key = second_of _ _ key_fits;
-      short_key = le_of (length key) KEY_LIMIT (second_of _ _ key_sized);
-      plain_value = second_of _ _ value_fits;
-      short_value = le_of (length value) VALUE_LIMIT (first_of _ _ value_fits);
+      some = some_below key (lt_of 0 (length key) (first_of _ _ key_fits));
+      short_key = le_of (length key) KEY_LIMIT (second_of _ _ key_fits);
+      short_value = le_of (length value) VALUE_LIMIT value_fits;
     }
 
 pub job_asked : (tool file backend action key value : List ℕ) → asks_set tool file backend action key value ≡ true → job_of (tool ∷ file ∷ backend ∷ action ∷ key ∷ value ∷ []) ≡ Some (set_job file key value)

@@ -1,12 +1,11 @@
 -- The one job that a command line stands for, or none. It grows as tools and actions are built.
-use Rattle.std.specs.Prelude.{◌≡◌, ℕ, ◌<◌, ◌≤◌, ◌&&◌, Bool, false, not, nat_lt, nat_le, nat_eq, List, [], ◌∷◌, Option, None, Some, length, codes, if◌then◌else◌}
-use Rattle.std.specs.List.{list_all, starts_with}
+use Rattle.std.specs.Prelude.{ℕ, ◌≤◌, ◌&&◌, Bool, false, not, nat_lt, nat_le, nat_eq, List, [], ◌∷◌, Option, None, Some, length, codes, if◌then◌else◌}
+use Rattle.std.specs.List.{starts_with}
 use Rattle.std.specs.Str.{bytes_eq}
 use Rattle.base_core.specs.OrderedMap.{IsBelow}
 use Rattle.base_core.specs.declared.action.Backend.TheVariants.{Flat}
 use Rattle.base_core.specs.declared.action.Action.TheVariants.{Set}
 use Rattle.base_core.specs.declared.limits.TheConstants.{KEY_LIMIT, VALUE_LIMIT}
-use Rattle.flat_db.specs.FlatText.{is_plain_byte, IsPlain}
 use Rattle.cyr_top.specs.declared.jobs.Job.{Job}
 use Rattle.cyr_top.specs.declared.jobs.Job.TheVariants.{Dbtool}
 
@@ -14,13 +13,13 @@ use Rattle.cyr_top.specs.declared.jobs.Job.TheVariants.{Dbtool}
 abbrev pub is_operand : List ℕ → Bool
 is_operand word = not (starts_with nat_eq word (codes "-"))
 
--- a key that flat text holds as it is, of 1 to KEY_LIMIT bytes
+-- a key of 1 to KEY_LIMIT bytes
 abbrev pub is_key : List ℕ → Bool
-is_key word = nat_lt 0 (length word) && nat_le (length word) KEY_LIMIT && list_all is_plain_byte word
+is_key word = nat_lt 0 (length word) && nat_le (length word) KEY_LIMIT
 
--- a value that flat text holds as it is, of at most VALUE_LIMIT bytes
+-- a value of at most VALUE_LIMIT bytes
 abbrev pub is_value : List ℕ → Bool
-is_value word = nat_le (length word) VALUE_LIMIT && list_all is_plain_byte word
+is_value word = nat_le (length word) VALUE_LIMIT
 
 -- a pair is set in a flat file
 abbrev pub set_job : List ℕ → List ℕ → List ℕ → Job
@@ -39,9 +38,7 @@ job_of words = None
 -- what holds of a pair that words ask to set
 pub record CanSet (key value : List ℕ) : Type 0 where
   pub some : IsBelow [] key
-  pub plain_key : IsPlain key
   pub short_key : length key ≤ KEY_LIMIT
-  pub plain_value : IsPlain value
   pub short_value : length value ≤ VALUE_LIMIT
 
 -- what holds of a job that words stand for

@@ -1,8 +1,8 @@
 -- What a crash may leave of a job's database, in words of maps and transactions.
-use Rattle.std.specs.Prelude.{◌≡◌, ℕ, ◌-◌, ◌≤◌, List, [], ◌∷◌, Option, None, Some, length}
+use Rattle.std.specs.Prelude.{ℕ, ◌-◌, ◌≤◌, List, [], ◌∷◌, None, Some, length}
 use Rattle.base_core.specs.CrashImages.{Image, DiskState}
 use Rattle.base_core.specs.OrderedMap.{Map}
-use Rattle.base_core.specs.Transactions.{Transaction, Store, after_first, after_transactions}
+use Rattle.base_core.specs.Transactions.{Transaction, Store, after_first}
 use Rattle.base_core.specs.declared.action.Backend.{Backend}
 use Rattle.base_core.specs.declared.action.Backend.TheVariants.{Flat, Twoskip}
 use Rattle.base_core.specs.declared.action.Action.TheVariants.{Set}

@@ -4,7 +4,6 @@ ghost use Rattle.cyr_top.specs.JobOf.{job_of, is_operand, is_key, is_value, set_
 
 use crate::{Job, Paths, WordFault};
 use base_core::{Action, Backend, Bytes, KEY_LIMIT, NoMemory, Text, VALUE_LIMIT};
-use flat_db::is_plain;
 use std::alloc::Global;
 
 fn may_be_operand(word: &str) -> bool
@@ -16,16 +15,16 @@ fn may_be_operand(word: &str) -> bool
 fn may_be_key(word: &str) -> bool
     ensures { result ≡ is_key word.now }
 {
-    !word.is_empty() && word.len() as u64 <= KEY_LIMIT && is_plain(word.as_bytes())
+    !word.is_empty() && word.len() as u64 <= KEY_LIMIT
 }
 
 fn may_be_value(word: &str) -> bool
     ensures { result ≡ is_value word.now }
 {
-    word.len() as u64 <= VALUE_LIMIT && is_plain(word.as_bytes())
+    word.len() as u64 <= VALUE_LIMIT
 }
 
-// Whether the words are `cyr_dbtool FILE flat set KEY VALUE`, with a pair that flat text holds as it is.
+// Whether the words are `cyr_dbtool FILE flat set KEY VALUE`, with a key and a value of sizes that may be stored.
 fn asks_to_set(tool: &str, file: &str, backend: &str, action: &str, key: &str, value: &str) -> bool
     ensures { result ≡ asks_set tool.now file.now backend.now action.now key.now value.now }
 {

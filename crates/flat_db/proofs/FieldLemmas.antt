@@ -1,12 +1,9 @@
 -- A field and the byte that ends it.
-use Rattle.std.proofs.Common.{◌≡◌, ◌⊎◌, inl, inr, ℕ, zero, suc, ◌<◌, ◌≤◌, Bool, true, false, List, [], ◌∷◌, ◌++◌, length, get_or, take, refl, sym, ◌∙◌, subst, arith}
-use Rattle.std.specs.Prelude.{◌==◌, ◌&&◌, not}
-use Rattle.std.specs.declared.cmp.Ordering.{Ordering}
-use Rattle.std.specs.declared.cmp.Ordering.TheVariants.{Less, Equal, Greater}
-use Rattle.std.specs.Ordering.{ordering_index}
-use Rattle.base_core.specs.OrderedMap.{IsBelow}
-use Rattle.flat_db.specs.FlatText.{IsPlain, is_plain_byte, StartsPlain}
-use Rattle.flat_db.specs.Lines.{IsFree}
+use Rattle.std.proofs.Common.{◌≡◌, ◌≢◌, ◌⊎◌, inl, inr, ⊎_elim, ℕ, zero, suc, ◌<◌, ◌≤◌, Bool, true, false, List, [], ◌∷◌, ◌++◌, length, get_or, take, refl, sym, ◌∙◌, ap, subst, arith}
+use Rattle.std.specs.Prelude.{◌==◌, ◌&&◌, ◌||◌, not, flat_map}
+use Rattle.base_core.specs.Escapes.{escaped_byte, escaped}
+use Rattle.base_core.proofs.EscapeLemmas.{one_or_two, escapes}
+use Rattle.flat_db.specs.FlatText.{IsFree}
 
 both : (a b : Bool) → a ≡ true → b ≡ true → (a && b) ≡ true
 both true true p q = refl
@@ -38,6 +35,13 @@ free_take end (suc n) [] fits none = absurd (omega (arith, fits))
 free_take end (suc n) (x ∷ xs) fits none =
     both _ _ (not_true (x == end) (none 0 (omega arith))) (free_take end n xs (omega (arith, fits)) (λ i below. none (suc i) (omega arith)))
 
+pub free_then : (end : ℕ) (xs ys : List ℕ) → IsFree end xs → IsFree end ys → IsFree end (xs ++ ys)
+free_then end [] ys free other = other
+free_then end (x ∷ xs) ys free other = both _ _ (first_of_both _ _ free) (free_then end xs ys (second_of_both _ _ free) other)
+
+pub free_one : (end x : ℕ) → x ≢ end → IsFree end (x ∷ [])
+free_one end x isnt = both _ _ (not_true (x == end) (λ is. isnt (grind (arith)))) refl
+
 pub free_none : (end : ℕ) (xs ys : List ℕ) → IsFree end (xs ++ (end ∷ ys)) → ⊥
 free_none end [] ys free = not_both (end == end) (first_of_both _ _ free) (same_byte end)
 free_none end (x ∷ xs) ys free = free_none end xs ys (second_of_both _ _ free)
@@ -56,41 +60,47 @@ split_unique end (x ∷ xs) (y ∷ ys) r s fx fy same =
     let rest = split_unique end xs ys r s (second_of_both _ _ fx) (second_of_both _ _ fy) (cc same) in
     (cc (head, rest.0), rest.1)
 
-plain_byte_free : (end b : ℕ) → (end ≡ 9) ⊎ (end ≡ 10) → is_plain_byte b ≡ true → not (b == end) ≡ true
-plain_byte_free end b side plain = grind (arith)
+-- a list up to the first such byte, if there is one
+pub record Split (end : ℕ) (xs : List ℕ) : Type 0 where
+  pub front : List ℕ
+  pub back : List ℕ
+  pub free : IsFree end front
+  pub is : xs ≡ front ++ (end ∷ back)
 
-pub plain_free : (end : ℕ) (field : List ℕ) → (end ≡ 9) ⊎ (end ≡ 10) → IsPlain field → IsFree end field
-plain_free end [] side plain = refl
-plain_free end (b ∷ field) side plain = both _ _ (plain_byte_free end b side (first_of_both _ _ plain)) (plain_free end field side (second_of_both _ _ plain))
+pub split_or_free : (end : ℕ) (xs : List ℕ) → Split end xs ⊎ IsFree end xs
+split_or_free end [] = inr refl
+split_or_free end (x ∷ xs) = by (x == end) refl (split_or_free end xs)
+  where
+    by : (b : Bool) → (x == end) ≡ b → Split end xs ⊎ IsFree end xs → Split end (x ∷ xs) ⊎ IsFree end (x ∷ xs)
+    by true is later = inl (record { front = []; back = xs; free = refl; is = ap (λ (n : ℕ). n ∷ xs) (grind (arith)) })
+    by false is (inl split) = inl (record {
+      front = x ∷ split.front;
+      back = split.back;
+      free = both _ _ (not_true (x == end) (λ e. cc (sym is ∙ e))) split.free;
+      is = ap (λ (l : List ℕ). x ∷ l) split.is;
+    })
+    by false is (inr free) = inr (both _ _ (not_true (x == end) (λ e. cc (sym is ∙ e))) free)
 
--- the line with which a text begins is one
-pub starts_once : (before text key value after : List ℕ) (p : List ℕ × List ℕ) (next : List ℕ) → IsFree 9 key → IsFree 10 value → text ≡ key ++ (9 ∷ (value ++ (10 ∷ after))) → StartsPlain before text p next → (key ≡ p.0) × (value ≡ p.1) × (after ≡ next)
-starts_once before text key value after p next free_key free_value is starts =
-    let first = split_unique 9 key p.0 _ _ free_key (plain_free 9 p.0 (inl refl) starts.key) (sym is ∙ starts.line) in
-    let second = split_unique 10 value p.1 after next free_value (plain_free 10 p.1 (inr refl) starts.value) first.1 in
-    (first.0, second.0, second.1)
+-- what is escaped ends no field and no line
+byte_free : (end byte : ℕ) → (end ≡ 9) ⊎ (end ≡ 10) → IsFree end (escaped_byte byte)
+unfolding escaped_byte
+byte_free end byte side = by (one_or_two byte)
+  where
+    plain_isnt : (byte ≢ 255) × (escaped_byte byte ≡ byte ∷ []) → byte ≢ end
+    plain_isnt p is = ⊎_elim (λ nine. other 9 (is ∙ nine) refl) (λ ten. other 10 (is ∙ ten) refl) side
+      where
+        other : (n : ℕ) → byte ≡ n → (n == 9 || n == 10) ≡ true → ⊥
+        other n same which = grind (arith, p.1)
+
+    by : ((byte ≢ 255) × (escaped_byte byte ≡ byte ∷ [])) ⊎ ((second : ℕ) × (escaped_byte byte ≡ 255 ∷ second ∷ [])) → IsFree end (escaped_byte byte)
+    by (inl p) = subst (IsFree end) (sym p.1) (free_one end byte (plain_isnt p))
+    by (inr q) = subst (IsFree end) (sym q.1) (free_then end (255 ∷ []) (q.0 ∷ []) (free_one end 255 (⊎_elim (λ n. λ e. omega (arith, n, e)) (λ n. λ e. omega (arith, n, e)) side))
+        (free_one end q.0 (⊎_elim (λ same. ⊎_elim (λ n. λ e. omega (arith, same.1, n, e)) (λ n. λ e. omega (arith, same.1, n, e)) side) (λ low. ⊎_elim (λ n. λ e. omega (arith, low.0, n, e)) (λ n. λ e. omega (arith, low.0, n, e)) side) (escapes byte q.0 q.1))))
+
+pub escaped_free : (end : ℕ) (bytes : List ℕ) → (end ≡ 9) ⊎ (end ≡ 10) → IsFree end (escaped bytes)
+unfolding escaped
+escaped_free end [] side = refl
+escaped_free end (byte ∷ bytes) side = free_then end (escaped_byte byte) (flat_map escaped_byte bytes) (byte_free end byte side) (escaped_free end bytes side)
 
 pub byte_is : (a b : ℕ) → (a == b) ≡ true → a ≡ b
 byte_is a b is = grind (arith)
-
--- what such a line says of the fields that were found
-pub starts_fields : (before text key value after : List ℕ) (p : List ℕ × List ℕ) (next : List ℕ) → IsFree 9 key → IsFree 10 value → text ≡ key ++ (9 ∷ (value ++ (10 ∷ after))) → StartsPlain before text p next → IsBelow before key × IsPlain key × IsPlain value
-starts_fields before text key value after p next free_key free_value is starts =
-    let once = starts_once before text key value after p next free_key free_value is starts in
-    (subst (λ (k : List ℕ). IsBelow before k) (sym once.0) starts.above, subst IsPlain (sym once.0) starts.key, subst IsPlain (sym once.1) starts.value)
-
--- the plain line with which a text begins is one
-pub starts_same : (before text : List ℕ) (p q : List ℕ × List ℕ) (after next : List ℕ) → StartsPlain before text p after → StartsPlain before text q next → (p.0 ≡ q.0) × (p.1 ≡ q.1) × (after ≡ next)
-starts_same before text p q after next first second =
-    starts_once before text p.0 p.1 after q next (plain_free 9 p.0 (inl refl) first.key) (plain_free 10 p.1 (inr refl) first.value) first.line second
-
--- what a comparison with `Less` says
-pub is_less : (o : Ordering) → (ordering_index o == 0) ≡ true → o ≡ Less
-is_less Less is = refl
-is_less Equal is = cc is
-is_less Greater is = cc is
-
-pub not_less : (o : Ordering) → (ordering_index o == 0) ≡ false → o ≡ Less → ⊥
-not_less Less isnt less = cc isnt
-not_less Equal isnt less = cc less
-not_less Greater isnt less = cc less

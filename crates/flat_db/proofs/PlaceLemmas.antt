@@ -1,146 +1,176 @@
--- The parts of a text round the line of a key.
-use Rattle.std.proofs.Common.{◌≡◌, ◌≢◌, inl, inr, ℕ, ◌-◌, List, [], ◌∷◌, ◌++◌, length, take, drop, refl, sym, ◌∙◌, ap, subst, append_assoc, arith, length-append}
-use Rattle.std.proofs.Math.Seq.{take-append_seam, drop-append_seam}
-use Rattle.std.proofs.lemmas.List.{append-nil}
+-- The place of a key among entries, and what stands there.
+use Rattle.std.proofs.Common.{◌≡◌, ◌≢◌, ℕ, zero, suc, ◌+◌, ◌<◌, ◌≤◌, Bool, true, false, List, [], ◌∷◌, ◌++◌, Some, None, length, get_or, set, take, drop, refl, sym, ◌∙◌, ap, subst, arith}
+use Rattle.std.proofs.lemmas.List.{take-map, drop-map, drop_more, drop_all, take-append-drop, get_or-map, get_or-take, length-map, length-take-le, length-drop, get_or-drop, set_split, map-append}
+use Rattle.std.proofs.Math.Numerals.{add-one}
 use Rattle.std.specs.declared.cmp.Ordering.{Ordering}
 use Rattle.std.specs.declared.cmp.Ordering.TheVariants.{Less, Equal, Greater}
-use Rattle.std.specs.Ordering.{ordering_reverse}
-use Rattle.std.specs.Cmp.Lexicographic.{nat_list_cmp_total}
-use Rattle.std.specs.FinMap.{slice_cmp-IsAntisymmetric, nat_cmp-IsAntisymmetric}
-use Rattle.base_core.specs.OrderedMap.{Map, IsBelow, BeginsAbove, key_order, put}
-use Rattle.flat_db.specs.FlatText.{IsPlainRun, StartsPlain, IsFirstUnplain, canonical_text, pair_line, last_key}
-use Rattle.flat_db.specs.Lines.{Passes, OwnOrNone, PutsLine}
-use Rattle.flat_db.proofs.RunLemmas.{run_then, last_then, text_then, plain_line, put_behind, put_over, put_before, run_starts}
+use Rattle.std.specs.Ordering.{is_lt, is_eq}
+use Rattle.std.specs.List.{All, insert}
+use Rattle.std.specs.List.Sorted.{IsPartitionedBy, IsPartitionPoint}
+use Rattle.base_core.specs.OrderedMap.{Map, IsBelow, IsOrderedMap, BeginsAbove, key_order, put, value_at}
+use Rattle.flat_db.proofs.OrderedMaps.{EndsBelow, below_then, above_turned, begins_above_then, no_value_before, value_behind, value_here, put_behind, put_over, put_before, same_key, is_at_key, key_itself}
+use Rattle.flat_db.specs.Entries.{part_of, pair_of, pairs_of}
+use Rattle.flat_db.specs.Places.{IsPlaceOf}
+use Rattle.flat_db.specs.declared.entries.Entry.{Entry}
 
--- one text behind another
-front_of : (text a b : List ℕ) → text ≡ a ++ b → take (length text - length b) text ≡ a
-front_of text a b is =
-    let long : length text - length b ≡ length a = omega (arith, ap length is, length-append a b) in
-    ap (λ (n : ℕ). take n text) long ∙ ap (λ (l : List ℕ). take (length a) l) is ∙ take-append_seam a b
+is_below : (o : Ordering) → is_lt o ≡ true → o ≡ Less
+is_below Less is = refl
+is_below Equal is = absurd (cc is)
+is_below Greater is = absurd (cc is)
 
-back_of : (text a b : List ℕ) → text ≡ a ++ b → drop (length text - length b) text ≡ b
-back_of text a b is =
-    let long : length text - length b ≡ length a = omega (arith, ap length is, length-append a b) in
-    ap (λ (n : ℕ). drop n text) long ∙ ap (λ (l : List ℕ). drop (length a) l) is ∙ drop-append_seam a b
+not_below : (o : Ordering) → is_lt o ≡ false → o ≡ Less → ⊥
+not_below o is less = absurd (cc (sym is ∙ ap is_lt less))
 
--- The lines with lower keys, the key's own line if it is there, and how a pair of the key goes among the lines that follow.
-pub record Parts (text key rest later_key later_rest : List ℕ) : Type 0 where
-  pub lower : Map
-  pub own : Map
-  pub plain : IsPlainRun [] (lower ++ own)
-  pub first : text ≡ canonical_text lower ++ rest
-  pub second : rest ≡ canonical_text own ++ later_rest
-  pub last : later_key ≡ last_key [] (lower ++ own)
-  pub puts : (upper : Map) (after value : List ℕ) → IsPlainRun later_key upper → later_rest ≡ canonical_text upper ++ after → put ((lower ++ own) ++ upper) key value ≡ lower ++ ((key, value) ∷ upper)
+above_all : (m : Map) (key : List ℕ) (j : ℕ) (d : List ℕ × List ℕ) → BeginsAbove key m → IsOrderedMap m → j < length m → IsBelow key (get_or m j d).0
+above_all [] key j d begins ordered below = absurd (omega (arith, below))
+above_all (p ∷ m) key zero d begins ordered below = begins
+above_all (p ∷ m) key (suc j) d begins ordered below = above_all m key j d (begins_above_then key p.0 m begins ordered.0) ordered.1 (omega (arith, below))
 
--- a key that is neither below another nor equal to it is above it
-above_other : (key other : List ℕ) → (IsBelow other key → ⊥) → (other ≡ key → ⊥) → IsBelow key other
-above_other key other not_below differs = by (key_order key other) refl
-  where
-    by : (o : Ordering) → key_order key other ≡ o → IsBelow key other
-    by Less is = is
-    by Equal is = absurd (differs (sym (slice_cmp-IsAntisymmetric nat_cmp-IsAntisymmetric key other is)))
-    by Greater is = absurd (not_below (nat_list_cmp_total.antisymm other key ∙ ap ordering_reverse is))
+ends_below : (m : Map) (key : List ℕ) → All (λ (p : List ℕ × List ℕ). IsBelow p.0 key) m → EndsBelow m key
+ends_below [] key all = tt
+ends_below (p ∷ m) key all = (all 0 p (omega arith), ends_below m key (λ k d below. all (suc k) d (omega (arith, below))))
 
--- the parts where the key's line is not there
-parts_without : (text key low_key rest : List ℕ) → IsBelow [] key → Passes [] text low_key rest → IsBelow low_key key
-    → ((p : List ℕ × List ℕ) (after : List ℕ) → StartsPlain low_key rest p after → IsBelow p.0 key → ⊥)
-    → ((p : List ℕ × List ℕ) (after : List ℕ) → StartsPlain low_key rest p after → p.0 ≡ key → ⊥)
-    → Parts text key rest low_key rest
-parts_without text key low_key rest some passed below stops other = record {
-  lower = passed.run;
-  own = [];
-  plain = subst (λ (m : Map). IsPlainRun [] m) (sym (append-nil passed.run)) passed.plain;
-  first = passed.lines;
-  second = refl;
-  last = passed.last ∙ ap (λ (m : Map). last_key [] m) (sym (append-nil passed.run));
-  puts = λ upper after value run is.
-      ap (λ (m : Map). put (m ++ upper) key value) (append-nil passed.run)
-      ∙ put_behind [] passed.run upper key value passed.plain (subst (λ (k : List ℕ). IsBelow k key) passed.last below)
-      ∙ ap (λ (m : Map). passed.run ++ m) (put_before key value upper (begins upper after run is));
-}
-  where
-    begins : (upper : Map) (after : List ℕ) → IsPlainRun low_key upper → rest ≡ canonical_text upper ++ after → BeginsAbove key upper
-    begins [] after run is = tt
-    begins (p ∷ upper) after run is =
-        let starts = run_starts low_key rest after p upper run is in
-        above_other key p.0 (stops p _ starts) (other p _ starts)
+module _ (bytes key : List ℕ) where
+  abbrev pub goes_before : Entry → Bool
+  goes_before entry = is_lt (key_order (part_of bytes entry.key) key)
 
--- and where it is
-parts_with : (text key low_key rest value later_rest : List ℕ) → Passes [] text low_key rest → IsBelow low_key key
-    → StartsPlain low_key rest (key, value) later_rest → Parts text key rest key later_rest
-parts_with text key low_key rest value later_rest passed below starts = record {
-  lower = passed.run;
-  own = (key, value) ∷ [];
-  plain = run_then [] passed.run ((key, value) ∷ []) passed.plain (subst (λ (k : List ℕ). IsBelow k key) passed.last starts.above, starts.key, starts.value, tt);
-  first = passed.lines;
-  second = starts.line ∙ sym (plain_line (key, value) later_rest starts.key starts.value) ∙ ap (λ (l : List ℕ). l ++ later_rest) (sym (append-nil (pair_line key value)));
-  last = sym (last_then [] passed.run ((key, value) ∷ []));
-  puts = λ upper after new run is.
-      ap (λ (m : Map). put m key new) (append_assoc passed.run ((key, value) ∷ []) upper)
-      ∙ put_behind [] passed.run ((key, value) ∷ upper) key new passed.plain (subst (λ (k : List ℕ). IsBelow k key) passed.last below)
-      ∙ ap (λ (m : Map). passed.run ++ m) (put_over key new value upper);
-}
+  pub parted : (entries : List Entry) → IsOrderedMap (pairs_of bytes entries) → IsPartitionedBy goes_before entries
+  parted [] ordered i j d le below is = absurd (omega (arith, below))
+  parted (x ∷ entries) ordered zero zero d le below is = is
+  parted (x ∷ entries) ordered (suc i) zero d le below is = absurd (omega (arith, le))
+  parted (x ∷ entries) ordered (suc i) (suc j) d le below is = parted entries ordered.1 i j d (omega (arith, le)) (omega (arith, below)) is
+  parted (x ∷ entries) ordered zero (suc j) d le below is =
+      let within : j < length entries = omega (arith, below) in
+      let lower : IsBelow (part_of bytes x.key) (get_or (pairs_of bytes entries) j (pair_of bytes d)).0 = above_all (pairs_of bytes entries) (part_of bytes x.key) j (pair_of bytes d) ordered.0 ordered.1 (omega (arith, within, length-map entries (pair_of bytes))) in
+      let at : IsBelow (part_of bytes x.key) (part_of bytes (get_or entries j d).key) = subst (λ (p : List ℕ × List ℕ). IsBelow (part_of bytes x.key) p.0) (get_or-map (pair_of bytes) entries j d (pair_of bytes d) within) lower in
+      ap is_lt (below_then (part_of bytes x.key) (part_of bytes (get_or entries j d).key) key at (is_below _ is))
 
-pub parts_of : (text key low_key rest later_key later_rest : List ℕ) → IsBelow [] key → Passes [] text low_key rest → IsBelow low_key key
-    → ((p : List ℕ × List ℕ) (after : List ℕ) → StartsPlain low_key rest p after → IsBelow p.0 key → ⊥)
-    → OwnOrNone low_key rest key later_key later_rest
-    → Parts text key rest later_key later_rest
-parts_of text key low_key rest later_key later_rest some passed below stops (inl own) =
-    subst (λ (k : List ℕ). Parts text key rest k later_rest) (sym own.2) (parts_with text key low_key rest own.0 later_rest passed below own.1)
-parts_of text key low_key rest later_key later_rest some passed below stops (inr none) =
-    subst (λ (k : List ℕ). Parts text key rest k later_rest) (sym none.0)
-    (subst (λ (r : List ℕ). Parts text key rest low_key r) (sym none.1) (parts_without text key low_key rest some passed below stops none.2))
-
--- what the parts say once all plain lines behind the key's line are passed
-module _ (text key rest later_key later_rest last_passed last_rest : List ℕ) (parts : Parts text key rest later_key later_rest) (passed : Passes later_key later_rest last_passed last_rest) where
-  front : Map
-  front = parts.lower ++ parts.own
-
-  whole : Map
-  whole = front ++ passed.run
-
-  whole_plain : IsPlainRun [] whole
-  unfolding whole front
-  whole_plain = run_then [] (parts.lower ++ parts.own) passed.run parts.plain (subst (λ (k : List ℕ). IsPlainRun k passed.run) parts.last passed.plain)
-
-  front_lines : text ≡ canonical_text front ++ later_rest
-  unfolding front
-  front_lines =
-      parts.first ∙ ap (λ (l : List ℕ). canonical_text parts.lower ++ l) parts.second
-      ∙ sym (append_assoc (canonical_text parts.lower) (canonical_text parts.own) later_rest)
-      ∙ ap (λ (l : List ℕ). l ++ later_rest) (sym (text_then parts.lower parts.own))
-
-  whole_lines : text ≡ canonical_text whole ++ last_rest
-  unfolding whole
-  whole_lines =
-      front_lines ∙ ap (λ (l : List ℕ). canonical_text front ++ l) passed.lines
-      ∙ sym (append_assoc (canonical_text front) (canonical_text passed.run) last_rest)
-      ∙ ap (λ (l : List ℕ). l ++ last_rest) (sym (text_then front passed.run))
-
-  pub puts_line : last_rest ≡ [] → PutsLine text key (length text - length rest) (length text - length later_rest)
-  unfolding whole front
-  puts_line ends = record {
-    map = whole;
-    text_of = record { plain = whole_plain; lines = whole_lines ∙ ap (λ (l : List ℕ). canonical_text whole ++ l) ends ∙ append-nil (canonical_text whole) };
-    ordered = omega (arith, ap length parts.second, length-append (canonical_text parts.own) later_rest);
-    within = omega arith;
-    put_text = λ value.
-        ap canonical_text (parts.puts passed.run last_rest value passed.plain passed.lines)
-        ∙ text_then parts.lower ((key, value) ∷ passed.run)
-        ∙ ap (λ (l : List ℕ). l ++ (pair_line key value ++ canonical_text passed.run)) (sym (front_of text (canonical_text parts.lower) rest parts.first))
-        ∙ ap (λ (l : List ℕ). take (length text - length rest) text ++ (pair_line key value ++ l))
-        (sym (back_of text (canonical_text front) later_rest front_lines ∙ passed.lines ∙ ap (λ (l : List ℕ). canonical_text passed.run ++ l) ends ∙ append-nil (canonical_text passed.run)));
+  pub place_of_point : (entries : List Entry) (place : ℕ) → place ≤ length entries → IsPartitionPoint (λ y. goes_before y ≡ true) (λ y. goes_before y ≡ false) entries place → IsPlaceOf key (pairs_of bytes entries) place
+  place_of_point entries place fits point = record {
+    within = omega (arith, fits, length-map entries (pair_of bytes));
+    lower = λ k d below. lower k d (omega (arith, below, length-take-le place (pairs_of bytes entries) (omega (arith, fits, length-map entries (pair_of bytes)))));
+    others = λ k d below. upper k d (omega (arith, below, length-drop place (pairs_of bytes entries), length-map entries (pair_of bytes)));
   }
+    where
+      -- the entry at a place, at a default that stands in the list
+      entry_at : (k : ℕ) (d : List ℕ × List ℕ) → k < length entries → (e : Entry) × (get_or (pairs_of bytes entries) k d ≡ pair_of bytes (get_or entries k e))
+      entry_at k d below = from entries refl
+        where
+          from : (es : List Entry) → es ≡ entries → (e : Entry) × (get_or (pairs_of bytes entries) k d ≡ pair_of bytes (get_or entries k e))
+          from [] is = absurd (omega (arith, below, ap length is))
+          from (e ∷ es) is = (e, get_or-map (pair_of bytes) entries k e d below)
 
-  pub first_unplain : last_rest ≢ [] → ((p : List ℕ × List ℕ) (after : List ℕ) → StartsPlain last_passed last_rest p after → ⊥) → IsFirstUnplain text (length text - length last_rest)
-  unfolding whole front
-  first_unplain more stops = record {
-    before = whole;
-    rest = last_rest;
-    plain = whole_plain;
-    lines = whole_lines;
-    place = omega (arith, ap length whole_lines, length-append (canonical_text whole) last_rest);
-    more = more;
-    unplain = λ p after starts. stops p after (subst (λ (k : List ℕ). StartsPlain k last_rest p after) (sym (passed.last ∙ ap (λ (k : List ℕ). last_key k passed.run) parts.last ∙ sym (last_then [] (parts.lower ++ parts.own) passed.run))) starts);
-  }
+      lower : (k : ℕ) (d : List ℕ × List ℕ) → k < place → IsBelow (get_or (take place (pairs_of bytes entries)) k d).0 key
+      lower k d below =
+          let at = entry_at k d (omega (arith, below, fits)) in
+          subst (λ (p : List ℕ × List ℕ). IsBelow p.0 key) (sym (get_or-take place (pairs_of bytes entries) k d below ∙ at.1)) (is_below _ (point.0 k at.0 (omega arith) below))
+
+      upper : (k : ℕ) (d : List ℕ × List ℕ) → place + k < length entries → IsBelow (get_or (drop place (pairs_of bytes entries)) k d).0 key → ⊥
+      upper k d below is =
+          let at = entry_at (place + k) d below in
+          not_below _ (point.1 (place + k) at.0 (omega arith) below) (subst (λ (p : List ℕ × List ℕ). IsBelow p.0 key) (get_or-drop place (pairs_of bytes entries) k d ∙ at.1) is)
+
+  -- ---- what stands at the place
+
+  module _ (entries : List Entry) (place : ℕ) (ordered : IsOrderedMap (pairs_of bytes entries)) (at : IsPlaceOf key (pairs_of bytes entries) place) where
+    front : Map
+    front = take place (pairs_of bytes entries)
+
+    lower : EndsBelow front key
+    unfolding front
+    lower = ends_below (take place (pairs_of bytes entries)) key at.lower
+
+    whole : pairs_of bytes entries ≡ front ++ drop place (pairs_of bytes entries)
+    unfolding front
+    whole = sym (take-append-drop place (pairs_of bytes entries))
+
+    rest_ordered : IsOrderedMap (drop place (pairs_of bytes entries))
+    rest_ordered = from place (pairs_of bytes entries) ordered
+      where
+        from : (n : ℕ) (m : Map) → IsOrderedMap m → IsOrderedMap (drop n m)
+        from zero m is = is
+        from (suc n) [] is = tt
+        from (suc n) (p ∷ m) is = from n m is.1
+
+    -- what is not below the key and differs from it is above it
+    above : (p : List ℕ × List ℕ) (m : Map) → drop place (pairs_of bytes entries) ≡ p ∷ m → p.0 ≢ key → IsBelow key p.0
+    above p m is differs = by (key_order key p.0) refl
+      where
+        by : (o : Ordering) → key_order key p.0 ≡ o → IsBelow key p.0
+        by Less o = o
+        by Equal o = absurd (differs (sym (same_key key p.0 o)))
+        by Greater o = absurd (at.others 0 p (omega (arith, ap length is)) (subst (λ (l : Map). IsBelow (get_or l 0 p).0 key) (sym is) (above_turned key p.0 o)))
+
+    value_there : value_at (pairs_of bytes entries) key ≡ value_at (drop place (pairs_of bytes entries)) key
+    value_there = ap (λ (m : Map). value_at m key) whole ∙ value_behind front (drop place (pairs_of bytes entries)) key lower
+
+    put_there : (value : List ℕ) → put (pairs_of bytes entries) key value ≡ front ++ put (drop place (pairs_of bytes entries)) key value
+    put_there value = ap (λ (m : Map). put m key value) whole ∙ put_behind front (drop place (pairs_of bytes entries)) key value lower
+
+    -- beyond the end
+    begins_end : length entries ≤ place → BeginsAbove key (drop place (pairs_of bytes entries))
+    begins_end over = subst (BeginsAbove key) (sym (drop_all place (pairs_of bytes entries) (omega (arith, over, length-map entries (pair_of bytes))))) tt
+
+    -- at an entry
+    here : (entry : Entry) → place < length entries → entry ≡ get_or entries place entry → drop place (pairs_of bytes entries) ≡ pair_of bytes entry ∷ drop (place + 1) (pairs_of bytes entries)
+    here entry below is =
+        drop_more (pairs_of bytes entries) place (pair_of bytes entry) (omega (arith, below, length-map entries (pair_of bytes)))
+        ∙ ap (λ (p : List ℕ × List ℕ). p ∷ drop (place + 1) (pairs_of bytes entries)) (get_or-map (pair_of bytes) entries place entry (pair_of bytes entry) below ∙ ap (pair_of bytes) (sym is))
+
+    begins_other : (entry : Entry) → place < length entries → entry ≡ get_or entries place entry → part_of bytes entry.key ≢ key → BeginsAbove key (drop place (pairs_of bytes entries))
+    begins_other entry below is differs =
+        let stands = here entry below is in
+        subst (BeginsAbove key) (sym stands) (above (pair_of bytes entry) (drop (place + 1) (pairs_of bytes entries)) stands differs)
+
+    pub value_none : BeginsAbove key (drop place (pairs_of bytes entries)) → value_at (pairs_of bytes entries) key ≡ None
+    value_none begins = value_there ∙ no_value_before key (drop place (pairs_of bytes entries)) begins rest_ordered
+
+    pub value_end : length entries ≤ place → value_at (pairs_of bytes entries) key ≡ None
+    value_end over = value_none (begins_end over)
+
+    pub value_other : (entry : Entry) → place < length entries → entry ≡ get_or entries place entry → part_of bytes entry.key ≢ key → value_at (pairs_of bytes entries) key ≡ None
+    value_other entry below is differs = value_none (begins_other entry below is differs)
+
+    pub value_own : (entry : Entry) → place < length entries → entry ≡ get_or entries place entry → part_of bytes entry.key ≡ key → value_at (pairs_of bytes entries) key ≡ Some (part_of bytes entry.value)
+    value_own entry below is own =
+        value_there ∙ ap (λ (m : Map). value_at m key) (here entry below is)
+        ∙ ap (λ (k : List ℕ). value_at ((k, part_of bytes entry.value) ∷ drop (place + 1) (pairs_of bytes entries)) key) own
+        ∙ value_here key (part_of bytes entry.value) (drop (place + 1) (pairs_of bytes entries))
+
+    -- a new entry in the place of the key's own, and between the others
+    pub put_own : (entry new : Entry) → place < length entries → entry ≡ get_or entries place entry → part_of bytes entry.key ≡ key → part_of bytes new.key ≡ key
+        → pairs_of bytes (set entries place new) ≡ put (pairs_of bytes entries) key (part_of bytes new.value)
+    unfolding front
+    put_own entry new below is own key_is =
+        ap (pairs_of bytes) (set_split entries place new below) ∙ map-append (pair_of bytes) (take place entries) (new ∷ drop (suc place) entries)
+        ∙ ap (λ (l : Map). l ++ (pair_of bytes new ∷ pairs_of bytes (drop (suc place) entries))) (sym (take-map (pair_of bytes) place entries))
+        ∙ ap (λ (l : Map). take place (pairs_of bytes entries) ++ (pair_of bytes new ∷ l)) (sym (drop-map (pair_of bytes) (suc place) entries) ∙ ap (λ (n : ℕ). drop n (pairs_of bytes entries)) (sym (add-one place)))
+        ∙ ap (λ (k : List ℕ). take place (pairs_of bytes entries) ++ ((k, part_of bytes new.value) ∷ drop (place + 1) (pairs_of bytes entries))) key_is
+        ∙ ap (λ (m : Map). take place (pairs_of bytes entries) ++ m) (sym (put_over key (part_of bytes new.value) (part_of bytes entry.value) (drop (place + 1) (pairs_of bytes entries))))
+        ∙ ap (λ (k : List ℕ). take place (pairs_of bytes entries) ++ put ((k, part_of bytes entry.value) ∷ drop (place + 1) (pairs_of bytes entries)) key (part_of bytes new.value)) (sym own)
+        ∙ ap (λ (m : Map). take place (pairs_of bytes entries) ++ put m key (part_of bytes new.value)) (sym (here entry below is))
+        ∙ sym (put_there (part_of bytes new.value))
+
+    pub put_new : (new : Entry) → BeginsAbove key (drop place (pairs_of bytes entries)) → part_of bytes new.key ≡ key
+        → pairs_of bytes (insert entries place new) ≡ put (pairs_of bytes entries) key (part_of bytes new.value)
+    unfolding front
+    put_new new begins key_is =
+        map-append (pair_of bytes) (take place entries) (new ∷ drop place entries)
+        ∙ ap (λ (l : Map). l ++ (pair_of bytes new ∷ pairs_of bytes (drop place entries))) (sym (take-map (pair_of bytes) place entries))
+        ∙ ap (λ (l : Map). take place (pairs_of bytes entries) ++ (pair_of bytes new ∷ l)) (sym (drop-map (pair_of bytes) place entries))
+        ∙ ap (λ (k : List ℕ). take place (pairs_of bytes entries) ++ ((k, part_of bytes new.value) ∷ drop place (pairs_of bytes entries))) key_is
+        ∙ ap (λ (m : Map). take place (pairs_of bytes entries) ++ m) (sym (put_before key (part_of bytes new.value) (drop place (pairs_of bytes entries)) begins))
+        ∙ sym (put_there (part_of bytes new.value))
+
+    pub put_end : (new : Entry) → length entries ≤ place → part_of bytes new.key ≡ key → pairs_of bytes (insert entries place new) ≡ put (pairs_of bytes entries) key (part_of bytes new.value)
+    put_end new over key_is = put_new new (begins_end over) key_is
+
+    pub put_other : (entry new : Entry) → place < length entries → entry ≡ get_or entries place entry → part_of bytes entry.key ≢ key → part_of bytes new.key ≡ key → pairs_of bytes (insert entries place new) ≡ put (pairs_of bytes entries) key (part_of bytes new.value)
+    put_other entry new below is differs key_is = put_new new (begins_other entry below is differs) key_is
+
+-- what a comparison with `Equal` says
+pub same_part : (a b c : List ℕ) (o : Ordering) (r : Bool) → a ≡ c → o ≡ key_order a b → r ≡ is_eq o → r ≡ true → c ≡ b
+same_part a b c o r part is eq holds = sym part ∙ is_at_key a b (sym (eq ∙ ap is_eq is) ∙ holds)
+
+pub other_part : (a b c : List ℕ) (o : Ordering) (r : Bool) → a ≡ c → o ≡ key_order a b → r ≡ is_eq o → r ≡ false → c ≢ b
+other_part a b c o r part is eq fails same = cc (sym fails ∙ eq ∙ ap is_eq (is ∙ ap (λ (k : List ℕ). key_order k b) (part ∙ same) ∙ key_itself b))

@@ -1,8 +1,13 @@
 -- Flat text: a line for each pair of a map.
-use Rattle.std.specs.Prelude.{◌≡◌, ◌≢◌, ℕ, Bool, not, ◌==◌, ◌||◌, List, [], ◌∷◌, ◌++◌, length, IsTrue}
+use Rattle.std.specs.Prelude.{◌≡◌, ◌≢◌, ◌⊎◌, ℕ, ◌+◌, not, ◌==◌, List, [], ◌∷◌, ◌++◌, length, fold, Option, Some, None, IsTrue}
 use Rattle.std.specs.List.{list_all}
-use Rattle.base_core.specs.Escapes.{escaped}
-use Rattle.base_core.specs.OrderedMap.{Map, IsBelow}
+use Rattle.base_core.specs.Escapes.{escaped, Spells, IsBadEscape}
+use Rattle.base_core.specs.OrderedMap.{Map, put}
+use Rattle.base_core.specs.declared.flaw.Damage.{Damage}
+use Rattle.base_core.specs.declared.flaw.Flaw.{Flaw}
+use Rattle.base_core.specs.declared.flaw.Flaw.TheVariants.{NoTab, BadEscape, EmptyKey}
+
+-- ---- what is written
 
 -- the line of a pair: the escaped key, TAB, the escaped value, LF
 unfoldable pub pair_line : List ℕ → List ℕ → List ℕ
@@ -13,41 +18,73 @@ abbrev pub canonical_text : Map → List ℕ
 canonical_text [] = []
 canonical_text (p ∷ m) = pair_line p.0 p.1 ++ canonical_text m
 
--- a byte that a field holds as it is: none of 00, TAB, LF, CR and FF
-abbrev pub is_plain_byte : ℕ → Bool
-is_plain_byte b = not (b == 0 || b == 9 || b == 10 || b == 13 || b == 255)
+-- ---- what is read
 
-abbrev pub IsPlain : List ℕ → Type 0
-IsPlain field = IsTrue (list_all is_plain_byte field)
+-- no byte is equal to this one
+abbrev pub IsFree : ℕ → List ℕ → Type 0
+IsFree end field = IsTrue (list_all (λ b. not (b == end)) field)
 
--- Plain pairs whose keys rise strictly from this one on. No key is empty, since none is above itself.
-abbrev pub IsPlainRun : List ℕ → Map → Type 0
-IsPlainRun before [] = Unit {0}
-IsPlainRun before (p ∷ m) = IsBelow before p.0 × IsPlain p.0 × IsPlain p.1 × IsPlainRun p.0 m
+-- A text begins with a line and goes on behind its LF. The last line may lack it.
+pub record HasLine (text line rest : List ℕ) : Type 0 where
+  pub some : text ≢ []
+  pub whole : IsFree 10 line
+  pub ends : (text ≡ line ++ (10 ∷ rest)) ⊎ ((text ≡ line) × (rest ≡ []))
 
--- the last key of a run, or the one before it where it has none
-abbrev pub last_key : List ℕ → Map → List ℕ
-last_key before [] = before
-last_key before (p ∷ m) = last_key p.0 m
+-- the first TAB of a line ends its key's field, and the rest is its value's
+pub record HasFields (line key value : List ℕ) : Type 0 where
+  pub split : line ≡ key ++ (9 ∷ value)
+  pub first : IsFree 9 key
 
--- the text is that of this map, whose pairs are plain
+-- the fields of a line spell a pair, and its key is not empty
+pub record SaysPair (line : List ℕ) (p : List ℕ × List ℕ) : Type 0 where
+  pub key_field : List ℕ
+  pub value_field : List ℕ
+  pub fields : HasFields line key_field value_field
+  pub key : Spells p.0 key_field
+  pub value : Spells p.1 value_field
+  pub some : p.0 ≢ []
+
+-- a text is the lines of these pairs, in this order, and the rest
+abbrev pub SaysPairs : List ℕ → List (List ℕ × List ℕ) → List ℕ → Type 0
+SaysPairs text [] rest = text ≡ rest
+SaysPairs text (p ∷ pairs) rest = (line later : List ℕ) × HasLine text line later × SaysPair line p × SaysPairs later pairs rest
+
+-- the pairs put one after another, so that a later one wins
+abbrev pub put_all : List (List ℕ × List ℕ) → Map
+put_all pairs = fold (λ (m : Map) (p : List ℕ × List ℕ). put m p.0 p.1) [] pairs
+
+-- the text is that of this map
 pub record FlatTextOf (text : List ℕ) (m : Map) : Type 0 where
-  pub plain : IsPlainRun [] m
-  pub lines : text ≡ canonical_text m
+  pub pairs : List (List ℕ × List ℕ)
+  pub lines : SaysPairs text pairs []
+  pub later_wins : m ≡ put_all pairs
 
--- the text begins with the plain line of this pair, whose key is above the one before
-pub record StartsPlain (before text : List ℕ) (p : List ℕ × List ℕ) (after : List ℕ) : Type 0 where
-  pub above : IsBelow before p.0
-  pub key : IsPlain p.0
-  pub value : IsPlain p.1
-  pub line : text ≡ p.0 ++ (9 ∷ (p.1 ++ (10 ∷ after)))
+-- ---- what is wrong with it
 
--- The offset of the first line that is not plain: the lines before it are, and the one there is not.
-pub record IsFirstUnplain (text : List ℕ) (at : ℕ) : Type 0 where
-  pub before : Map
+-- the first bad escape of a line with these fields, by its offset in the line
+abbrev pub IsBadInFields : List ℕ → List ℕ → ℕ → Type 0
+IsBadInFields key value at =
+    IsBadEscape key at ⊎ ((bytes : List ℕ) × Spells bytes key × (offset : ℕ) × IsBadEscape value offset × (at ≡ length key + 1 + offset))
+
+-- The flaw of a line, and its offset in the line: no TAB, or else the first bad escape, or else an empty key.
+pub data IsLineFlaw (line : List ℕ) (at : ℕ) (check : Flaw) : Type 0 where
+  without_tab : IsFree 9 line → at ≡ 0 → check ≡ NoTab → IsLineFlaw line at check
+  with_bad_escape : (key value : List ℕ) → HasFields line key value → IsBadInFields key value at → check ≡ BadEscape → IsLineFlaw line at check
+  with_empty_key : (value bytes : List ℕ) → HasFields line [] value → Spells bytes value → at ≡ 0 → check ≡ EmptyKey → IsLineFlaw line at check
+
+-- The first line of a text that says no pair, and its flaw.
+pub record IsFlawedAt (text : List ℕ) (damage : Damage) : Type 0 where
+  pub before : List (List ℕ × List ℕ)
   pub rest : List ℕ
-  pub plain : IsPlainRun [] before
-  pub lines : text ≡ canonical_text before ++ rest
-  pub place : at ≡ length (canonical_text before)
-  pub more : rest ≢ []
-  pub unplain : (p : List ℕ × List ℕ) (after : List ℕ) → StartsPlain (last_key [] before) rest p after → ⊥
+  pub line : List ℕ
+  pub later : List ℕ
+  pub offset : ℕ
+  pub sound : SaysPairs text before rest
+  pub first : HasLine rest line later
+  pub flaw : IsLineFlaw line offset damage.check
+  pub place : damage.at + length rest ≡ length text + offset
+
+-- the first flaw of a text with its place, or none where each line says a pair
+abbrev pub FirstFlatFlaw : List ℕ → Option Damage → Type 0
+FirstFlatFlaw text None = (pairs : List (List ℕ × List ℕ)) × SaysPairs text pairs []
+FirstFlatFlaw text (Some damage) = IsFlawedAt text damage

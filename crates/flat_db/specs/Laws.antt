@@ -1,17 +1,33 @@
 -- What holds of every text.
-use Rattle.std.specs.Prelude.{◌≡◌, ℕ, List, []}
-use Rattle.base_core.specs.OrderedMap.{Map, IsBelow, put}
-use Rattle.flat_db.specs.FlatText.{FlatTextOf, IsFirstUnplain, IsPlain, canonical_text}
+use Rattle.std.specs.Prelude.{◌≡◌, ◌≢◌, ◌↔◌, ℕ, List, [], Option, None}
+use Rattle.std.specs.List.{All}
+use Rattle.base_core.specs.OrderedMap.{Map, IsOrderedMap, IsBelow, put}
+use Rattle.base_core.specs.declared.flaw.Damage.{Damage}
+use Rattle.flat_db.specs.FlatText.{FlatTextOf, FirstFlatFlaw, canonical_text}
 
--- a plain text is that of one map
+-- a text is that of one map
 abbrev pub TextIsOneMap : Type 0
 TextIsOneMap = (text : List ℕ) → (m n : Map) → FlatTextOf text m → FlatTextOf text n → m ≡ n
 
--- the first line that is not plain stands at one place, and a text that has one is that of no map
-pub record FirstFlawIsOne : Type 0 where
-  pub place : (text : List ℕ) → (at other : ℕ) → IsFirstUnplain text at → IsFirstUnplain text other → at ≡ other
-  pub no_map : (text : List ℕ) → (at : ℕ) → (m : Map) → IsFirstUnplain text at → FlatTextOf text m → ⊥
+-- whose keys rise strictly, and are not empty
+abbrev pub TextIsOrdered : Type 0
+TextIsOrdered = (text : List ℕ) → (m : Map) → FlatTextOf text m → IsOrderedMap m × All (λ p. p.0 ≢ []) m
 
--- the canonical text of a plain map with a plain pair put is that of this map
-abbrev pub PutTextIsPlain : Type 0
-PutTextIsPlain = (text key value : List ℕ) → (m : Map) → IsBelow [] key → IsPlain key → IsPlain value → FlatTextOf text m → FlatTextOf (canonical_text (put m key value)) (put m key value)
+-- a text has one first flaw, or none
+abbrev pub FirstFlawIsOne : Type 0
+FirstFlawIsOne = (text : List ℕ) → (a b : Option Damage) → FirstFlatFlaw text a → FirstFlatFlaw text b → a ≡ b
+
+abbrev pub FirstFlawExists : Type 0
+FirstFlawExists = (text : List ℕ) → (answer : Option Damage) × FirstFlatFlaw text answer
+
+-- none exactly where it is the text of a map
+abbrev pub FlawlessOpens : Type 0
+FlawlessOpens = (text : List ℕ) → FirstFlatFlaw text None ↔ ((m : Map) × FlatTextOf text m)
+
+-- the canonical text of an ordered map without an empty key is that of this map
+abbrev pub CanonicalReadsBack : Type 0
+CanonicalReadsBack = (m : Map) → IsOrderedMap m → All (λ p. p.0 ≢ []) m → FlatTextOf (canonical_text m) m
+
+-- so is that of the map of a text with a pair put
+abbrev pub PutReadsBack : Type 0
+PutReadsBack = (text key value : List ℕ) → (m : Map) → IsBelow [] key → FlatTextOf text m → FlatTextOf (canonical_text (put m key value)) (put m key value)

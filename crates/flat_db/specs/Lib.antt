@@ -1,4 +1,9 @@
+pub mod Entries
 pub mod FlatText
+pub mod Kept
 pub mod Laws
 pub mod Lines
+pub mod Places
+pub mod Reading
 pub mod SetPair
+pub mod Writing

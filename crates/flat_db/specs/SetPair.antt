@@ -5,12 +5,11 @@ use Rattle.base_core.specs.CrashImages.{Image}
 use Rattle.base_core.specs.OrderedMap.{Map, put}
 use Rattle.base_core.specs.declared.limits.TheConstants.{FLAT_LIMIT}
 use Rattle.base_core.specs.declared.flaw.Flaw.{Flaw}
-use Rattle.base_core.specs.declared.flaw.Flaw.TheVariants.{Unbuilt}
-use Rattle.flat_db.specs.FlatText.{FlatTextOf, IsFirstUnplain, canonical_text}
+use Rattle.flat_db.specs.FlatText.{FlatTextOf, IsFlawedAt, canonical_text}
 use Rattle.flat_db.specs.declared.setting.SetFault.{SetFault}
 use Rattle.flat_db.specs.declared.setting.SetFault.TheVariants.{Absent, TooBig, NoMemory, DiskFault, Damaged, Full}
 
--- The file is a plain text, the other one is the canonical text of its map with the pair put, and both are within the limit.
+-- The file is a text, the other one is the canonical text of its map with the pair put, and both are within the limit.
 pub record IsSet (key value : List ℕ) (main after : Image) : Type 0 where
   pub text : List ℕ
   pub map : Map
@@ -27,13 +26,12 @@ pub record IsTooBig (main : Image) (size : ℕ) : Type 0 where
   pub counted : size ≡ length text
   pub over : FLAT_LIMIT < size
 
--- the file is within the limit, and its first line that is not plain begins here
+-- the file is within the limit, and has its first flaw here
 pub record IsDamaged (main : Image) (at : ℕ) (check : Flaw) : Type 0 where
   pub text : List ℕ
   pub there : main ≡ Some text
   pub within : length text ≤ FLAT_LIMIT
-  pub unbuilt : check ≡ Unbuilt
-  pub first : IsFirstUnplain text at
+  pub first : IsFlawedAt text (record { at = at; check = check })
 
 -- the file with the pair put would have more bytes than it may
 pub record IsFull (key value : List ℕ) (main : Image) (size : ℕ) : Type 0 where

@@ -1,17 +1,18 @@
 // Laws over the definitions. Each is the contract of a function that does nothing.
-ghost use Rattle.flat_db.specs.Laws.{TextIsOneMap, FirstFlawIsOne, PutTextIsPlain};
+ghost use Rattle.flat_db.specs.Laws.{TextIsOneMap, TextIsOrdered, FirstFlawIsOne, FirstFlawExists, FlawlessOpens, CanonicalReadsBack, PutReadsBack};
 
-/// A plain text is that of exactly one map.
-pub fn plain_text_is_one_map()
-    ensures { TextIsOneMap }
+/// A text has one first flaw, or none; and none exactly where it is the text of a map, and then of one alone.
+pub fn flawless_text_opens_once()
+    ensures unique { FirstFlawIsOne }
+    ensures exists { FirstFlawExists }
+    ensures opens { FlawlessOpens }
+    ensures once { TextIsOneMap }
+    ensures ordered { TextIsOrdered }
 {}
 
-/// The first line that is not plain stands at one place, and such a text is that of no map.
-pub fn first_flaw_is_one()
-    ensures { FirstFlawIsOne }
-{}
-
-/// The canonical text of a plain map with a plain pair put reads back as that map.
-pub fn put_text_is_plain()
-    ensures { PutTextIsPlain }
+/// The canonical text of a map without an empty key is the text of this map; so is that of the map of a text
+/// with a pair put.
+pub fn canonical_text_reads_back()
+    ensures back { CanonicalReadsBack }
+    ensures put { PutReadsBack }
 {}

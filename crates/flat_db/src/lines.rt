@@ -1,135 +1,122 @@
-// The lines of a plain text, one after another.
-ghost use Rattle.std.specs.Prelude.{◌≡◌, ◌++◌, ◌∷◌, [], ℕ, List, IfSome, IsNone, IfOk, IfErr};
-ghost use Rattle.std.specs.List.{list_all};
-ghost use Rattle.base_core.specs.OrderedMap.{IsBelow};
-ghost use Rattle.flat_db.specs.FlatText.{IsPlain, is_plain_byte, StartsPlain, IsFirstUnplain};
-ghost use Rattle.flat_db.specs.Lines.{IsFree, Passes, OwnOrNone, PutsLine};
+// A line of flat text is read: its fields are found, looked through and unescaped in their own place.
+ghost use Rattle.std.specs.Prelude.{◌≡◌, ◌<◌, ◌≤◌, ◌+◌, ◌-◌, ◌∷◌, ◌++◌, ℕ, List, IfOk, IfErr, length, take, drop, slice_index};
+ghost use Rattle.flat_db.specs.FlatText.{IsFree, HasLine, SaysPair, IsLineFlaw};
+ghost use Rattle.flat_db.specs.Lines.{HasTab, IsFlawedLine};
+ghost use Rattle.flat_db.specs.Entries.{EndsBy, pair_of};
 
-use base_core::{Pair, compare_keys};
+use crate::entries::{Entry, Span};
+use base_core::{Damage, Flaw, bad_escape, unescape};
 use memchr::memchr;
-use std::cmp::Ordering;
 
 const TAB: u8 = 9;
 
 const LINE_FEED: u8 = 10;
 
-/// Whether flat text holds each of these bytes as it is.
-pub fn is_plain(field: &[u8]) -> bool
-    ensures { result ≡ list_all is_plain_byte field.now }
-{
-    field.iter().all(|byte| !(*byte == 0
-        || *byte == 9
-        || *byte == 10
-        || *byte == 13
-        || *byte == 255))
-}
-
-// What stands before the first byte that is equal to `end`, and what stands after it.
-fn split_field(text: &[u8], end: u8) -> Option<(&[u8], &[u8])>
-    ensures found { IfSome result (λ r. (text.now ≡ r.0.now ++ (end ∷ r.1.now)) × IsFree end r.0.now) }
-    ensures none { IsNone result → IsFree end text.now }
-{
-    let at = memchr(end, text)?;
-    Some((&text[..at], &text[at + 1..]))
-}
-
-// A place between two lines of a text: what follows, and the key of the line before, empty at the start.
+// What is wrong with a line, and where in the line.
 #[derive(Clone, Copy)]
-pub(crate) struct Lines<'a> {
-    pub(crate) rest: &'a [u8],
-    pub(crate) key: &'a [u8],
+struct LineFlaw {
+    at: usize,
+    check: Flaw,
 }
 
-impl<'a> Lines<'a> {
-    pub(crate) fn new(text: &'a [u8]) -> Lines<'a>
-        ensures rest { result.rest.now ≡ text.now }
-        ensures key { result.key.now ≡ [] }
-    {
-        Lines {
-            rest: text,
-            key: b"",
-        }
-    }
-
-    // The pair of the next line and the place after it, or None where no plain line with a greater key is next.
-    pub(crate) fn next(self) -> Option<(Pair<'a>, Lines<'a>)>
-        ensures found { IfSome result (λ r. StartsPlain self.entry.key.now self.entry.rest.now (r.0.key.now, r.0.value.now) r.1.rest.now × (r.1.key.now ≡ r.0.key.now)) }
-        ensures none { IsNone result → (p : List ℕ × List ℕ) → (after : List ℕ) → StartsPlain self.entry.key.now self.entry.rest.now p after → ⊥ }
-    {
-        let (key, rest) = split_field(self.rest, TAB)?;
-        let (value, rest) = split_field(rest, LINE_FEED)?;
-        if compare_keys(self.key, key) == Ordering::Less && is_plain(key) && is_plain(value) {
-            Some((Pair { key, value }, Lines { rest, key }))
-        } else {
-            None
-        }
-    }
-}
-
-// The place after the plain lines that come next and have keys below this one.
-pub(crate) fn skip_below<'a>(lines: Lines<'a>, key: &[u8]) -> Lines<'a>
-    requires { IsBelow lines.key.now key.now }
-    ensures passed { Passes lines.entry.key.now lines.entry.rest.now result.key.now result.rest.now }
-    ensures below { IsBelow result.key.now key.now }
-    ensures stops { (p : List ℕ × List ℕ) → (after : List ℕ) → StartsPlain result.key.now result.rest.now p after → IsBelow p.0 key.now → ⊥ }
+// Where the key's field ends, in a line that says a pair.
+fn tab_of(line: &[u8]) -> Result<usize, LineFlaw>
+    ensures tab { IfOk result (λ tab. HasTab line.now tab) }
+    ensures flaw { IfErr result (λ flaw. IsLineFlaw line.now flaw.at flaw.check) }
 {
-    let mut lines = lines;
-    while let Some((pair, next)) = lines.next() {
-        if compare_keys(pair.key, key) != Ordering::Less {
-            break;
-        }
-        lines = next;
+    let Some(tab) = memchr(TAB, line) else {
+        return Err(LineFlaw {
+            at: 0,
+            check: Flaw::NoTab,
+        });
+    };
+    if let Some(at) = bad_escape(&line[..tab]) {
+        let check = Flaw::BadEscape;
+        return Err(LineFlaw { at, check });
     }
-    lines
+    if let Some(offset) = bad_escape(&line[tab + 1..]) {
+        let check = Flaw::BadEscape;
+        let at = tab + 1 + offset;
+        return Err(LineFlaw { at, check });
+    }
+    if tab == 0 {
+        let check = Flaw::EmptyKey;
+        return Err(LineFlaw { at: 0, check });
+    }
+    Ok(tab)
 }
 
-// The place after all plain lines that come next.
-pub(crate) fn skip_all<'a>(lines: Lines<'a>) -> Lines<'a>
-    ensures passed { Passes lines.entry.key.now lines.entry.rest.now result.key.now result.rest.now }
-    ensures stops { (p : List ℕ × List ℕ) → (after : List ℕ) → StartsPlain result.key.now result.rest.now p after → ⊥ }
-{
-    let mut lines = lines;
-    while let Some((_, next)) = lines.next() {
-        lines = next;
-    }
-    lines
-}
-
-// The place after the line of this key, where that line is next.
-fn skip_own<'a>(lines: Lines<'a>, key: &[u8]) -> Lines<'a>
-    ensures { OwnOrNone lines.entry.key.now lines.entry.rest.now key.now result.key.now result.rest.now }
-{
-    match lines.next() {
-        Some((pair, next)) => match compare_keys(pair.key, key) {
-            Ordering::Equal => next,
-            _ => lines,
-        },
-        None => lines,
-    }
-}
-
-/// Where the line of a key goes into a text: it takes the place of the bytes from `start` up to `end`.
+// A line that was read: its key stands at its front, its value behind its TAB.
 #[derive(Clone, Copy)]
-pub(crate) struct Place {
-    pub(crate) start: usize,
-    pub(crate) end: usize,
+struct Fields {
+    tab: usize,
+    key: usize,
+    value: usize,
 }
 
-// The place of a key's line in a plain text; or else the offset of the first line that is not plain.
-pub(crate) fn place_of(text: &[u8], key: &[u8]) -> Result<Place, usize>
-    requires { IsBelow [] key.now }
-    ensures found { IfOk result (λ place. PutsLine text.now key.now place.start place.end) }
-    ensures unplain { IfErr result (λ at. IsFirstUnplain text.now at) }
+// Reads a line. Its fields are unescaped in their own place, since they only become shorter: so the text is
+// its own memory, a field without an escape stays where it was read, and none is copied.
+fn read_line(line: &mut [u8]) -> Result<Fields, LineFlaw>
+    ensures pair { IfOk result (λ fields. SaysPair line.old (take fields.key line.new, take fields.value (drop (fields.tab + 1) line.new))) }
+    ensures within { IfOk result (λ fields. (fields.key ≤ fields.tab) × (fields.tab + 1 + fields.value ≤ length line.new)) }
+    ensures flaw { IfErr result (λ flaw. IsLineFlaw line.old flaw.at flaw.check) }
 {
-    let lower = skip_below(Lines::new(text), key);
-    let own = skip_own(lower, key);
-    let last = skip_all(own);
-    if last.rest.is_empty() {
-        Ok(Place {
-            start: text.len() - lower.rest.len(),
-            end: text.len() - own.rest.len(),
-        })
-    } else {
-        Err(text.len() - last.rest.len())
+    let tab = tab_of(line)?;
+    let key = unescape(&mut line[..tab]);
+    let value = unescape(&mut line[tab + 1..]);
+    Ok(Fields { tab, key, value })
+}
+
+// Where the line that begins at an offset ends: at its LF, or at the end of the text.
+fn line_end(text: &[u8], at: usize) -> usize
+    requires { at ≤ length text.now }
+    ensures ordered { at ≤ result }
+    ensures within { result ≤ length text.now }
+    ensures free { IsFree 10 (take (result - at) (drop at text.now)) }
+    ensures ends { result < length text.now → slice_index text.now result ≡ 10 }
+{
+    match memchr(LINE_FEED, &text[at..]) {
+        Some(size) => at + size,
+        None => text.len(),
+    }
+}
+
+// A line's pair, and where the next line begins.
+#[derive(Clone, Copy)]
+pub(crate) struct Line {
+    pub(crate) entry: Entry,
+    pub(crate) next: usize,
+}
+
+// Reads the line that begins at an offset.
+pub(crate) fn line_at(text: &mut [u8], at: usize) -> Result<Line, Damage>
+    requires some { at < length text.old }
+    requires short { length text.old ≤ 4294967295 }
+    ensures next { IfOk result (λ line. (at < line.next) × (line.next ≤ length text.old)) }
+    ensures before { IfOk result (λ line. take at text.new ≡ take at text.old) }
+    ensures after { IfOk result (λ line. drop line.next text.new ≡ drop line.next text.old) }
+    ensures pair { IfOk result (λ line. (whole : List ℕ) × HasLine (drop at text.old) whole (drop line.next text.old) × SaysPair whole (pair_of text.new line.entry)) }
+    ensures ends { IfOk result (λ line. EndsBy line.next line.entry) }
+    ensures flaw { IfErr result (λ damage. IsFlawedLine at (drop at text.old) damage) }
+{
+    let end = line_end(text, at);
+    match read_line(&mut text[at..end]) {
+        Ok(fields) => Ok(Line {
+            entry: Entry {
+                key: Span {
+                    start: at as u32,
+                    size: fields.key as u32,
+                },
+                value: Span {
+                    start: (at + fields.tab + 1) as u32,
+                    size: fields.value as u32,
+                },
+            },
+            next: (end + 1).min(text.len()),
+        }),
+        Err(flaw) => Err(Damage {
+            at: (at + flaw.at) as u64,
+            check: flaw.check,
+        }),
     }
 }

@@ -5,16 +5,13 @@ ghost use Rattle.base_core.specs.Causes.{HasCause, Rose};
 ghost use Rattle.base_core.specs.CrashImages.{Image, LeavesOnly, StaysAs, IsDurable};
 ghost use Rattle.base_core.specs.DiskCalls.{fresh_bytes, HasLength, IsLength};
 ghost use Rattle.base_core.specs.OrderedMap.{Map, IsBelow, put};
-ghost use Rattle.flat_db.specs.FlatText.{IsPlain, FlatTextOf, IsFirstUnplain, canonical_text, pair_line};
-ghost use Rattle.flat_db.specs.Lines.{PutsLine};
+ghost use Rattle.flat_db.specs.FlatText.{canonical_text};
 ghost use Rattle.flat_db.specs.SetPair.{IsSet, IsRefusal, HasSetCause, IsEarly, IsLate, IsOwnRefusal};
 
-use crate::lines::{Place, place_of};
-use base_core::{
-    Damage, Disk, FLAT_LIMIT, Failed, Flaw, KEY_LIMIT, ReadFault, VALUE_LIMIT, read_whole,
-    write_pieces,
-};
-use std::alloc::{AllocError, Global};
+use crate::flat_map::{FlatFault, FlatMap, map_of};
+use crate::writing::Piece;
+use base_core::{Disk, FLAT_LIMIT, Failed, Flaw, KEY_LIMIT, ReadFault, VALUE_LIMIT, read_whole};
+use std::alloc::Global;
 
 /// Why a pair was not put. Each comes exactly where it is said, and none before it in this order stands;
 /// want of memory is free.
@@ -28,54 +25,37 @@ pub enum SetFault {
     NoMemory,
     /// A call of the disk failed.
     DiskFault,
-    /// The text is not plain: the first flaw and its offset.
+    /// The text has a flaw: the first one, at this offset in bytes.
     Damaged { at: u64, check: Flaw },
     /// The file would have so many bytes, more than `FLAT_LIMIT`.
     Full { size: u64 },
 }
 
-// The line of a plain pair.
-fn line_of(alloc: Global, key: &[u8], value: &[u8]) -> Result<Vec<u8>, AllocError>
-    requires key { IsPlain key.now × (length key.now ≤ KEY_LIMIT) }
-    requires value { IsPlain value.now × (length value.now ≤ VALUE_LIMIT) }
-    ensures { IfOk result (λ line. line.items ≡ pair_line key.now value.now) }
-{
-    let mut line = Vec::with_capacity(alloc, key.len() + value.len() + 2)?;
-    line.extend_from_slice(key)?;
-    line.push(b'\t')?;
-    line.extend_from_slice(value)?;
-    line.push(b'\n')?;
-    Ok(line)
-}
-
-// Writes the new file: the text with this line in the place of the bytes from start up to end.
-fn write_new<D: Disk>(disk: &mut D, text: &[u8], place: Place, line: &[u8]) -> Result<(), Failed>
-    requires ordered { place.start ≤ place.end }
-    requires within { place.end ≤ length text.now }
-    ensures written { OnOk result (IsSome (D.state disk.old).reads → fresh_bytes (D.state disk.new).fresh ≡ Some (take place.start text.now ++ (line.now ++ drop place.end text.now))) }
+// Writes the new file: the canonical text of a map.
+fn write_new<D: Disk>(disk: &mut D, map: &FlatMap, piece: &mut Piece) -> Result<(), Failed>
+    requires { piece.old ≡ [] }
+    ensures written { OnOk result (IsSome (D.state disk.old).reads → fresh_bytes (D.state disk.new).fresh ≡ Some (canonical_text map.now)) }
     ensures stays { StaysAs (D.state disk.old) (D.state disk.new) }
     ensures cause { HasCause (D.state disk.old).faults (D.state disk.new).faults result }
     ensures rest { D.disk_rest disk.old disk.new }
 {
     disk.new_start()?;
-    write_pieces(disk, &text[..place.start])?;
-    write_pieces(disk, line)?;
-    write_pieces(disk, &text[place.end..])
+    map.write(disk, piece)?;
+    piece.flush(disk)
 }
 
-// Puts the new file, whole and synced, in the place of the main one.
-fn replace<D: Disk>(disk: &mut D, text: &[u8], place: Place, line: &[u8]) -> Result<(), Failed>
-    requires ordered { place.start ≤ place.end }
-    requires within { place.end ≤ length text.now }
-    ensures reads { OnOk result (IsSome (D.state disk.old).reads → (D.state disk.new).reads ≡ Some (Some (take place.start text.now ++ (line.now ++ drop place.end text.now)))) }
+// Puts the text of a map, whole and synced, in the place of the main file.
+fn replace<D: Disk>(disk: &mut D, map: &FlatMap, piece: &mut Piece) -> Result<(), Failed>
+    requires { piece.old ≡ [] }
+    ensures reads { OnOk result (IsSome (D.state disk.old).reads → (D.state disk.new).reads ≡ Some (Some (canonical_text map.now))) }
     ensures durable { OnOk result (IsDurable (D.state disk.new)) }
     ensures any_moment { IsSome (D.state disk.old).reads → LeavesOnly (D.state disk.old) (D.state disk.new)
-        (λ c n. (n ≡ (D.state disk.old).mark) × ((D.state disk.old).leaves c ⊎ (c ≡ Some (take place.start text.now ++ (line.now ++ drop place.end text.now))))) }
+        (λ c n. (n ≡ (D.state disk.old).mark) × ((D.state disk.old).leaves c ⊎ (c ≡ Some (canonical_text map.now)))) }
     ensures mark { (D.state disk.new).mark ≡ (D.state disk.old).mark }
     ensures cause { HasCause (D.state disk.old).faults (D.state disk.new).faults result }
     ensures rest { D.disk_rest disk.old disk.new }
 {
-    write_new(disk, text, place, line)?;
+    write_new(disk, map, piece)?;
     disk.new_sync()?;
     disk.publish()
 }
@@ -107,53 +87,41 @@ fn load<D: Disk>(alloc: Global, disk: &mut D) -> Result<Vec<u8>, SetFault>
     }
 }
 
-// Where the line of a pair goes, and the line.
-#[derive(Drop)]
-struct Change {
-    place: Place,
-    line: Vec<u8>,
-}
-
-// What is to be changed in the text so that the pair is in it.
-fn change_of(alloc: Global, text: &[u8], key: &[u8], value: &[u8]) -> Result<Change, SetFault>
-    requires within { length text.now ≤ FLAT_LIMIT }
-    requires key { IsBelow [] key.now × IsPlain key.now × (length key.now ≤ KEY_LIMIT) }
-    requires value { IsPlain value.now × (length value.now ≤ VALUE_LIMIT) }
-    ensures change { IfOk result (λ change. PutsLine text.now key.now change.place.start change.place.end × (change.line.items ≡ pair_line key.now value.now)) }
-    ensures fits { IfOk result (λ change. length (take change.place.start text.now ++ (change.line.items ++ drop change.place.end text.now)) ≤ FLAT_LIMIT) }
-    ensures refusal { IfErr result (IsRefusal key.now value.now (Some text.now)) }
+// The map of a text with a pair put. Its size is known before it is put.
+fn changed(alloc: Global, text: Vec<u8>, key: &[u8], value: &[u8]) -> Result<FlatMap, SetFault>
+    requires within { length text.items ≤ FLAT_LIMIT }
+    requires key { IsBelow [] key.now × (length key.now ≤ KEY_LIMIT) }
+    requires value { length value.now ≤ VALUE_LIMIT }
+    ensures map { IfOk result (λ map. IsSet key.now value.now (Some text.items) (Some (canonical_text map))) }
+    ensures refusal { IfErr result (IsRefusal key.now value.now (Some text.items)) }
     ensures late { IfErr result IsLate }
 {
-    let place = match place_of(text, key) {
-        Ok(place) => place,
-        Err(at) => {
-            return Err(SetFault::Damaged {
-                at: at as u64,
-                check: Flaw::Unbuilt,
-            });
-        }
+    let mut map = match map_of(alloc, text) {
+        Ok(map) => map,
+        Err(FlatFault::Damaged { at, check }) => return Err(SetFault::Damaged { at, check }),
+        Err(FlatFault::NoMemory) => return Err(SetFault::NoMemory),
     };
-    let size = (text.len() - (place.end - place.start) + key.len() + value.len() + 2) as u64;
+    let size = map.size_with(key, value);
     if size > FLAT_LIMIT {
         return Err(SetFault::Full { size });
     }
-    match line_of(alloc, key, value) {
-        Ok(line) => Ok(Change { place, line }),
+    match map.put(key, value) {
+        Ok(()) => Ok(map),
         Err(_) => Err(SetFault::NoMemory),
     }
 }
 
-/// Puts a pair into an existing plain flat file: the canonical text of the changed map takes the file's place.
+/// Puts a pair into an existing flat file: the canonical text of the changed map takes the file's place.
 ///
-/// The text is read once and written once, in pieces. A refusal other than a device fault leaves the disk as it was.
+/// The text is read once, in one piece of memory that becomes the map's, and written once, in pieces. A refusal other than a device fault leaves the disk as it was.
 pub fn set_pair<D: Disk>(
     alloc: Global,
     disk: &mut D,
     key: &[u8],
     value: &[u8],
 ) -> Result<(), SetFault>
-    requires key { IsBelow [] key.now × IsPlain key.now × (length key.now ≤ KEY_LIMIT) }
-    requires value { IsPlain value.now × (length value.now ≤ VALUE_LIMIT) }
+    requires key { IsBelow [] key.now × (length key.now ≤ KEY_LIMIT) }
+    requires value { length value.now ≤ VALUE_LIMIT }
 
     ensures done { (main : Image) → (D.state disk.old).reads ≡ Some main → OnOk result ((after : Image) × ((D.state disk.new).reads ≡ Some after) × IsSet key.now value.now main after) }
     ensures durable { OnOk result (IsDurable (D.state disk.new)) }
@@ -168,6 +136,9 @@ pub fn set_pair<D: Disk>(
     ensures rest { D.disk_rest disk.old disk.new }
 {
     let text = load(alloc, disk)?;
-    let change = change_of(alloc, &text, key, value)?;
-    replace(disk, &text, change.place, &change.line).map_err(|_| SetFault::DiskFault)
+    let map = changed(alloc, text, key, value)?;
+    let Ok(mut piece) = Piece::new(alloc) else {
+        return Err(SetFault::NoMemory);
+    };
+    replace(disk, &map, &mut piece).map_err(|_| SetFault::DiskFault)
 }

@@ -1,6 +1,5 @@
-use Rattle.std.proofs.Common.{◌≡◌, Some, sym, ◌∙◌}
+use Rattle.std.proofs.Common.{◌≡◌}
 use Rattle.cyr_top.specs.JobOf.{set_job}
-use Rattle.cyr_top.specs.declared.jobs.Job.{Job}
 use Rattle.cyr_top.proofs.running.perform.Goals as goal
 
 pub returns-in-Ok-clause-stated : goal.returns-in-Ok-clause-stated

@@ -1,4 +1,4 @@
-use Rattle.std.proofs.Common.{◌≡◌, Option, map, string_bytes, sym, subst}
+use Rattle.std.proofs.Common.{Option, map, string_bytes, sym, subst}
 use Rattle.base_core.specs.CrashImages.{Image}
 use Rattle.base_core.proofs.Moments.{leaves_still, stays_still}
 use Rattle.base_core.specs.declared.note.Note.{Note}

@@ -1,4 +1,4 @@
-use Rattle.std.proofs.Common.{◌≡◌, ℕ, List, true, false, sym, ◌∙◌, ap}
+use Rattle.std.proofs.Common.{sym, ◌∙◌, ap}
 use Rattle.cyr_top.specs.JobOf.{job_of}
 use Rattle.cyr_top.proofs.WordLemmas.{six_texts, can_set, job_asked, job_not_asked}
 use Rattle.cyr_top.proofs.words.set_words.Goals as goal

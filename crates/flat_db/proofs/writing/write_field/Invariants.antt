@@ -1,0 +1,14 @@
+use Rattle.std.proofs.Common.{◌≤◌, ◌-◌, length, take}
+use Rattle.base_core.specs.Escapes.{escaped}
+use Rattle.flat_db.proofs.Adding.{Adds}
+use Rattle.flat_db.proofs.writing.write_field.Given as goal
+
+abbrev pub invariant-loop-at : goal.invariant-loop-at
+invariant-loop-at g l = record {
+  within : l.at ≤ length l.field;
+  adds : Adds (g.D.Disk.state l.initial.disk) (g.D.Disk.state l.disk) l.initial.piece l.piece (escaped (take l.at l.field));
+  rest : g.D.Disk.disk_rest l.initial.disk l.disk;
+}
+
+abbrev pub decreases-loop-at : goal.decreases-loop-at
+decreases-loop-at g l = length l.field - l.at

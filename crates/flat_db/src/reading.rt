@@ -1,0 +1,75 @@
+// A text is read into a map.
+ghost use Rattle.std.specs.Prelude.{◌≡◌, ◌<◌, ◌≤◌, ◌+◌, ◌*◌, ◌^◌, [], ℕ, List, OnOk, IfOk, IfErr, length, take};
+ghost use Rattle.std.specs.List.{All};
+ghost use Rattle.base_core.specs.Escapes.{escaped};
+ghost use Rattle.flat_db.specs.FlatText.{FlatTextOf, SaysPairs, put_all, canonical_text, pair_line};
+ghost use Rattle.flat_db.specs.Entries.{EndsBy, part_of, pairs_of};
+ghost use Rattle.flat_db.specs.Reading.{IsFlatFault};
+
+use crate::FlatFault;
+use crate::entries::{Entry, part};
+use crate::lines::line_at;
+use base_core::{Damage, compare_keys, escaped_size};
+use std::alloc::AllocError;
+
+// Reads all lines of a text: an entry for each, in their order.
+pub(crate) fn read_lines(text: &mut [u8], entries: &mut Vec<Entry>) -> Result<(), FlatFault>
+    requires short { length text.old ≤ 4294967295 }
+    requires none { entries.old.items ≡ [] }
+    ensures pairs { OnOk result (SaysPairs text.old (pairs_of text.new entries.new.items) []) }
+    ensures ends { OnOk result (All (EndsBy (length text.new)) entries.new.items) }
+    ensures fault { IfErr result (λ fault. IsFlatFault text.old fault) }
+{
+    let mut at = 0;
+    while at < text.len() {
+        let line = match line_at(text, at) {
+            Ok(line) => line,
+            Err(Damage { at, check }) => return Err(FlatFault::Damaged { at, check }),
+        };
+        if entries.push(line.entry).is_err() {
+            return Err(FlatFault::NoMemory);
+        }
+        at = line.next;
+    }
+    Ok(())
+}
+
+// Puts entries in the order of their keys. Of some with one key the last is kept: they are turned round and
+// sorted, which keeps the order of equal keys, and then the first of each run stays.
+pub(crate) fn in_order(bytes: &[u8], entries: &mut Vec<Entry>) -> Result<(), AllocError>
+    ensures pairs { OnOk result (pairs_of bytes.now entries.new.items ≡ put_all (pairs_of bytes.now entries.old.items)) }
+    ensures ends { OnOk result ((end : ℕ) → All (EndsBy end) entries.old.items → All (EndsBy end) entries.new.items) }
+{
+    entries.reverse();
+    entries.sort_by(|a, b| compare_keys(part(bytes, a.key), part(bytes, b.key)))?;
+    entries.dedup_by(|a, b| compare_keys(part(bytes, a.key), part(bytes, b.key)).is_eq());
+    Ok(())
+}
+
+// How many bytes the field of these bytes has, at most two for each.
+#[tactic(auto, using(crate::proofs::FieldSizes::escaped_bound))]
+pub(crate) fn field_size(bytes: &[u8]) -> usize
+    ensures size { result ≡ length (escaped bytes.now) }
+    ensures bound { result ≤ 2 * length bytes.now }
+{
+    escaped_size(bytes)
+}
+
+// The size of a pair's line.
+pub(crate) fn line_size(bytes: &[u8], entry: Entry) -> u64
+    ensures { result ≡ length (pair_line (part_of bytes.now entry.key) (part_of bytes.now entry.value)) }
+{
+    (field_size(part(bytes, entry.key)) + field_size(part(bytes, entry.value)) + 2) as u64
+}
+
+// The size of the canonical text.
+pub(crate) fn text_size(bytes: &[u8], entries: &[Entry]) -> u64
+    requires { length (canonical_text (pairs_of bytes.now entries.now)) < 2 ^ 64 }
+    ensures { result ≡ length (canonical_text (pairs_of bytes.now entries.now)) }
+{
+    let mut size = 0;
+    for entry in entries {
+        size += line_size(bytes, *entry);
+    }
+    size
+}

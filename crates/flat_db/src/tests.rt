@@ -1,0 +1,115 @@
+// Texts and the maps that they say.
+use crate::{FlatFault, FlatMap, read_flat};
+use base_core::{FLAT_LIMIT, Flaw};
+use std::alloc::Global;
+use std::process::Abort;
+use std::test::Fail;
+
+fn expect_flaw(rt: &impl Abort, read: Result<FlatMap, FlatFault>, at: u64, check: Flaw) {
+    match read {
+        Ok(_) => assert!(rt; false),
+        Err(fault) => assert_eq!(rt; fault, FlatFault::Damaged { at, check }),
+    }
+}
+
+const ANY_ORDER: [u8; 27] = [
+    0xff, 0x80, 0xff, 0xff, 9, b'z', 10, b'a', 0xff, 0x89, 9, b'1', 10, b'b', 9, b'x', 10, b'a', 9,
+    b'0', 10, b'b', 9, b'y', 0, 13, 9,
+];
+
+#[test]
+fn later_lines_win(rt: HostRuntime) -> Result<(), Fail> {
+    let map = read_flat(rt.alloc(), &ANY_ORDER)?;
+    assert_eq!(rt; map.count(), 4);
+    assert!(rt; map.fetch(b"b") == Some([b'y', 0, 13, 9].as_slice()));
+    assert!(rt; map.fetch(b"a") == Some(b"0".as_slice()));
+    assert!(rt; map.fetch(b"a\t") == Some(b"1".as_slice()));
+    assert!(rt; map.fetch(&[0, 0xff]) == Some(b"z".as_slice()));
+    assert!(rt; map.fetch(b"c") == None);
+    assert!(rt; map.fetch(b"") == None);
+    assert_eq!(rt; map.text_size(), 7 + 4 + 6 + 10);
+    assert_eq!(rt; map.size_with(b"c", b"3"), 31);
+    assert_eq!(rt; map.size_with(b"b", b""), 20);
+    Ok(())
+}
+
+#[test]
+fn pairs_are_put(rt: HostRuntime) -> Result<(), Fail> {
+    let mut map = read_flat(rt.alloc(), b"")?;
+    assert_eq!(rt; map.count(), 0);
+    for (key, value) in [("b", "1"), ("a", ""), ("b", "2\n")] {
+        let (key, value) = (key.as_bytes(), value.as_bytes());
+        if key.len() > 9 || value.len() > 9 || map.size_with(key, value) > FLAT_LIMIT {
+            return Err("the pair is too long for the test".into());
+        }
+        assert!(rt; map.put(key, value).is_ok());
+    }
+    assert_eq!(rt; map.count(), 2);
+    assert!(rt; map.fetch(b"a") == Some(b"".as_slice()));
+    assert!(rt; map.fetch(b"b") == Some(b"2\n".as_slice()));
+    assert_eq!(rt; map.text_size(), 9);
+    Ok(())
+}
+
+// So many times this line.
+fn lines_of(alloc: Global, line: &[u8], count: u64) -> Result<Vec<u8>, Fail> {
+    let mut text = Vec::new(alloc);
+    for _ in 0..count {
+        text.extend_from_slice(line)?;
+    }
+    Ok(text)
+}
+
+#[test]
+fn million_lines_are_one_key(rt: HostRuntime) -> Result<(), Fail> {
+    let text = lines_of(rt.alloc(), b"a\t\xff\x89\n", 1_000_000)?;
+    let map = read_flat(rt.alloc(), &text)?;
+    assert_eq!(rt; map.count(), 1);
+    assert!(rt; map.fetch(b"a") == Some(b"\t".as_slice()));
+    assert_eq!(rt; map.text_size(), 5);
+    Ok(())
+}
+
+#[test]
+fn one_line_may_be_the_whole_text(rt: HostRuntime) -> Result<(), Fail> {
+    let text = lines_of(rt.alloc(), b"0123456789abcdef", FLAT_LIMIT / 16)?;
+    expect_flaw(&rt, read_flat(rt.alloc(), &text), 0, Flaw::NoTab);
+    Ok(())
+}
+
+#[test]
+fn first_flaw_is_told(rt: HostRuntime) -> Result<(), Fail> {
+    let alloc = rt.alloc();
+    expect_flaw(&rt, read_flat(alloc, b"abc\n"), 0, Flaw::NoTab);
+    expect_flaw(&rt, read_flat(alloc, b"a\t1\n\nb\t2\n"), 4, Flaw::NoTab);
+    expect_flaw(&rt, read_flat(alloc, b"a\t1\n\t\n"), 4, Flaw::EmptyKey);
+    expect_flaw(&rt, read_flat(alloc, b"\t"), 0, Flaw::EmptyKey);
+    expect_flaw(&rt, read_flat(alloc, &[b'a', 9, 0xff]), 2, Flaw::BadEscape);
+    expect_flaw(
+        &rt,
+        read_flat(alloc, &[b'a', 0xff, 9, b'1', 10]),
+        1,
+        Flaw::BadEscape,
+    );
+    expect_flaw(
+        &rt,
+        read_flat(alloc, &[b'a', 9, 0xff, 0xff, 0xff, 10]),
+        4,
+        Flaw::BadEscape,
+    );
+    expect_flaw(
+        &rt,
+        read_flat(alloc, &[b'a', 9, 0xff, 10, 0x80, 9, 10]),
+        2,
+        Flaw::BadEscape,
+    );
+    expect_flaw(&rt, read_flat(alloc, &[9, 0xff, 10]), 1, Flaw::BadEscape);
+    expect_flaw(&rt, read_flat(alloc, &[0xff, 10]), 0, Flaw::NoTab);
+    expect_flaw(
+        &rt,
+        read_flat(alloc, &[0xff, 9, 0xff, 10]),
+        0,
+        Flaw::BadEscape,
+    );
+    Ok(())
+}
