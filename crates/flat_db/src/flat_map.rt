@@ -12,9 +12,7 @@ ghost use Rattle.flat_db.specs.Writing.{AddsBytes};
 use crate::entries::{Entry, Span, part};
 use crate::reading::{field_size, in_order, line_size, read_lines, text_size};
 use crate::writing::{Piece, write_pairs};
-use base_core::{
-    Disk, FLAT_LIMIT, Failed, Flaw, KEY_LIMIT, NoMemory, VALUE_LIMIT, compare_keys,
-};
+use base_core::{Disk, FLAT_LIMIT, Failed, Flaw, KEY_LIMIT, NoMemory, VALUE_LIMIT, compare_keys};
 use memchr::memchr_iter;
 use std::alloc::Global;
 use std::marker::Model;
