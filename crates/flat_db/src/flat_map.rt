@@ -89,6 +89,7 @@ fn append(bytes: &mut Vec<u8>, key: &[u8], value: &[u8]) -> Result<Entry, NoMemo
     let start = bytes.len();
     let end = start + key.len() + value.len();
     if end > u32::MAX as usize
+        || bytes.reserve_exact(end - start).is_err()
         || bytes.extend_from_slice(key).is_err()
         || bytes.extend_from_slice(value).is_err()
     {
