@@ -42,9 +42,9 @@ delete_refusal kind s key =
 
 -- ---- what is answered
 
--- want of memory is free, and a fault of the disk comes only where no refusal is owed
+-- want of memory and a fault of the disk come only where no refusal is owed
 abbrev pub MayAnswer : Option DbFault → DbFault → Type 0
-MayAnswer owed NoMemory = Unit {0}
+MayAnswer owed NoMemory = owed ≡ None
 MayAnswer owed DiskFault = owed ≡ None
 MayAnswer owed fault = owed ≡ Some fault
 
