@@ -1,5 +1,5 @@
 -- What a field spells, byte by byte.
-use Rattle.std.proofs.Common.{◌≡◌, ◌≢◌, ◌⊎◌, inl, inr, ⊎_elim, ℕ, zero, suc, ◌+◌, ◌<◌, ◌≤◌, Bool, true, false, List, [], ◌∷◌, ◌++◌, length, take, drop, get_or, set, refl, sym, ◌∙◌, ap, subst, append_assoc, arith}
+use Rattle.std.proofs.Common.{◌≡◌, ◌≢◌, ◌⊎◌, inl, inr, ⊎_elim, ℕ, zero, suc, ◌+◌, ◌*◌, ◌<◌, ◌≤◌, Bool, true, false, List, [], ◌∷◌, ◌++◌, length, take, drop, get_or, set, refl, sym, ◌∙◌, ap, subst, append_assoc, arith, length-append}
 use Rattle.std.specs.Prelude.{flat_map, ◌==◌, ◌||◌}
 use Rattle.std.proofs.lemmas.List.{append-nil, drop_more, take-append-drop, take_more_set, drop-set-lt, drop-drop, take_more, length-drop}
 use Rattle.std.proofs.lemmas.List.Concat.{flat_map-append}
@@ -26,6 +26,15 @@ escapes byte second is = grind (arith)
 
 pub escape_once : (a b second : ℕ) → escaped_byte a ≡ 255 ∷ second ∷ [] → escaped_byte b ≡ 255 ∷ second ∷ [] → a ≡ b
 escape_once a b second one other = grind (arith, escapes a second one, escapes b second other)
+
+byte_bound : (byte : ℕ) → length (escaped_byte byte) ≤ 2
+byte_bound byte = ⊎_elim (λ one. omega (arith, ap length one.1)) (λ two. omega (arith, ap length two.1)) (one_or_two byte)
+
+-- a field is at most twice as long as what it spells
+pub escaped_bound : (bytes : List ℕ) → length (escaped bytes) ≤ 2 * length bytes
+unfolding escaped
+escaped_bound [] = omega arith
+escaped_bound (byte ∷ bytes) = omega (arith, byte_bound byte, escaped_bound bytes, length-append (escaped_byte byte) (flat_map escaped_byte bytes))
 
 -- how a byte is spelled
 pub byte_cases : (byte : ℕ) (first : List ℕ) → SpellsByte byte first → ((byte ≢ 255) × (first ≡ byte ∷ [])) ⊎ ((second : ℕ) × (escaped_byte byte ≡ 255 ∷ second ∷ []) × (first ≡ 255 ∷ second ∷ []))

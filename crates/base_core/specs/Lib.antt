@@ -9,3 +9,4 @@ pub mod Notes
 pub mod OrderedMap
 pub mod Time
 pub mod Transactions
+pub mod Untold

@@ -1,5 +1,5 @@
 // Escapes: how a field holds the bytes that would end it, and FF.
-ghost use Rattle.std.specs.Prelude.{◌≡◌, ◌⊎◌, ◌<◌, ◌≤◌, ◌+◌, ◌∷◌, ◌++◌, [], ℕ, true, false, List, IfSome, IsNone, length, take, drop};
+ghost use Rattle.std.specs.Prelude.{◌≡◌, ◌⊎◌, ◌<◌, ◌≤◌, ◌+◌, ◌*◌, ◌∷◌, ◌++◌, [], ℕ, true, false, List, IfSome, IsNone, length, take, drop};
 ghost use Rattle.base_core.specs.Escapes.{escaped, escaped_byte, Spells, IsBadEscape, FieldsReadBack};
 
 use memchr::memchr;
@@ -33,10 +33,11 @@ fn unescaped(second: u8) -> Option<u8>
     }
 }
 
-/// How many bytes the field of these bytes has.
-#[tactic(auto, unfolding(crate::specs::Escapes::escaped))]
+/// How many bytes the field of these bytes has, at most two for each.
+#[tactic(auto, unfolding(crate::specs::Escapes::escaped), using(crate::proofs::EscapeLemmas::escaped_bound))]
 pub fn escaped_size(bytes: &[u8]) -> usize
-    ensures { result ≡ length (escaped bytes.now) }
+    ensures size { result ≡ length (escaped bytes.now) }
+    ensures bound { result ≤ 2 * length bytes.now }
 {
     let mut size = 0;
     for byte in bytes {

@@ -11,7 +11,7 @@ mod host;
 mod limits;
 mod note;
 mod pair;
-mod pieces;
+mod reading;
 mod status;
 mod steps;
 #[cfg(test)]
@@ -29,7 +29,7 @@ pub use limits::{
 };
 pub use note::{Device, LimitName, Note, NoteText, Outcome};
 pub use pair::{Pair, compare_keys};
-pub use pieces::{ReadFault, read_whole, write_pieces};
+pub use reading::{ReadFault, read_whole};
 pub use status::{
     STATUS_ABSENT, STATUS_BAD_LINE, STATUS_DAMAGED, STATUS_DEVICE_FAULT, STATUS_DONE,
     STATUS_EXISTS, STATUS_LIMIT, STATUS_NEGATIVE, STATUS_NO_MEMORY, STATUS_USAGE,

@@ -66,16 +66,6 @@ tree_clone [] (f ∷ fs) same = absurd same
 tree_clone (e ∷ es) [] same = absurd same
 tree_clone (e ∷ es) (f ∷ fs) same = cc (same_items e.0.items f.0.items same.0.0.0, same_items e.1.items f.1.items same.0.1.0, tree_clone es fs same.1)
 
--- where a key has no value the map is the same without it
-pub nothing_there : (m : Map) (k : List ℕ) → is_some (value_at m k) ≡ false → without m k ≡ m
-unfolding value_at without
-nothing_there [] k none = refl
-nothing_there (p ∷ m) k none = by (is_eq (key_order k p.0)) none (nothing_there m k)
-  where
-    by : (b : Bool) → is_some (cond b (Some p.1) (lookup (is_at (key_order k)) m)) ≡ false → (is_some (lookup (is_at (key_order k)) m) ≡ false → remove_entry (is_at (key_order k)) m ≡ m) → cond b m (p ∷ remove_entry (is_at (key_order k)) m) ≡ p ∷ m
-    by true none rest = absurd (cc none)
-    by false none rest = ap (λ (l : Map). p ∷ l) (rest none)
-
 -- whether a key has a value, by whether the tree finds one
 pub tree_some : (es : List (V × V)) (k : List ℕ) (found : Option (Bor V)) (there : Bool) → option_copied found ≡ lookup (λ (a : V). is_eq (key_order k a.items)) es → is_some found ≡ there → is_some (value_at (map items_of es) k) ≡ there
 tree_some es k None there is some = ap is_some (sym (tree_value es k)) ∙ ap (λ (o : Option V). is_some (option_map (λ (v : V). v.items) o)) (sym is) ∙ some

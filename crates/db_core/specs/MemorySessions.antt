@@ -3,6 +3,7 @@ use Rattle.std.proofs.Common.{◌≡◌, ℕ, Bool, true, false, refl}
 use Rattle.std.specs.Prelude.{◌+◌, ◌&&◌, None, if◌then◌else◌}
 use Rattle.base_core.specs.CrashImages.{DiskState, IsMoment}
 use Rattle.base_core.specs.OrderedMap.{Map}
+use Rattle.base_core.specs.Untold.{counts_only, counts_moment}
 use Rattle.db_core.specs.Sessions.{DbKind, DbState, aborted}
 
 -- A kind whose files stand for every map, and have a byte for each change that was made.
@@ -35,23 +36,7 @@ outside_same false seen saved load saved_load changed closed = refl
 
 -- A disk that tells nothing but how often it failed.
 abbrev pub silent : ℕ → DiskState
-silent faults = record {
-  reads = None;
-  leaves = λ _. ⊥;
-  clock = 0;
-  mark = 0;
-  left_since = λ _ _ _. ⊥;
-  fresh = None;
-  faults = faults;
-  written = 0;
-  publishes = 0;
-}
+silent faults = counts_only faults 0 0
 
 pub silent_moment : (faults : ℕ) → IsMoment (silent faults)
-silent_moment faults = record {
-  now = λ c n left. absurd left;
-  counts_now = λ c left. left;
-  earlier = λ t u c n _ _ left. left;
-  reads_left = λ c is. cc;
-  tells = λ t c n left. absurd left;
-}
+silent_moment faults = counts_moment faults 0 0

@@ -2,6 +2,7 @@
 use Rattle.std.specs.Prelude.{ℕ, ◌+◌, ◌-◌, ◌^◌, min, None}
 use Rattle.base_core.specs.CrashImages.{DiskState, IsMoment}
 use Rattle.base_core.specs.HostCalls.{HostState}
+use Rattle.base_core.specs.Untold.{counts_only, counts_moment}
 
 -- how often a call of a real disk failed, how many bytes were passed to writes into its main file, and how often its
 -- new file was to take the main file's place
@@ -24,26 +25,10 @@ raised_by more count = min (count + more) (2 ^ 64 - 1)
 
 -- A real disk tells its counts, and nothing of what it reads or may leave.
 abbrev pub untold : FileCounts → DiskState
-untold counts = record {
-  reads = None;
-  leaves = λ _. ⊥;
-  clock = 0;
-  mark = 0;
-  left_since = λ _ _ _. ⊥;
-  fresh = None;
-  faults = counts.faults;
-  written = counts.written;
-  publishes = counts.publishes;
-}
+untold counts = counts_only counts.faults counts.written counts.publishes
 
 pub untold_moment : (counts : FileCounts) → IsMoment (untold counts)
-untold_moment counts = record {
-  now = λ c n left. absurd left;
-  counts_now = λ c left. left;
-  earlier = λ t u c n _ _ left. left;
-  reads_left = λ c is. cc;
-  tells = λ t c n left. absurd left;
-}
+untold_moment counts = counts_moment counts.faults counts.written counts.publishes
 
 -- the counts of a real host: those of its disk, and how often a tell failed
 pub record HostCounts : Type 0 where

@@ -10,7 +10,7 @@ use Rattle.std.specs.BTreeMap.{insert_entry}
 use Rattle.base_core.specs.Escapes.{escaped}
 use Rattle.base_core.specs.OrderedMap.{Map, IsBelow, IsOrderedMap, BeginsAbove, key_order, put}
 use Rattle.base_core.proofs.EscapeLemmas.{spells_escaped}
-use Rattle.flat_db.proofs.OrderedMaps.{EndsBelow, below_then, put_behind, put_ordered, nothing_below}
+use Rattle.base_core.proofs.OrderedMaps.{EndsBelow, below_then, put_behind, put_ordered, nothing_below}
 use Rattle.flat_db.specs.FlatText.{pair_line, canonical_text, HasLine, SaysPair, SaysPairs, FlatTextOf}
 use Rattle.flat_db.specs.Laws.{TextIsOrdered, CanonicalReadsBack, PutReadsBack}
 use Rattle.flat_db.proofs.FieldLemmas.{free_then, free_one, escaped_free}

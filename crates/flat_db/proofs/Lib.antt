@@ -1,11 +1,9 @@
 pub mod Adding
 pub mod Canonical
 pub mod FieldLemmas
-pub mod FieldSizes
 pub mod KeptLemmas
 pub mod LaterWins
 pub mod LineLemmas
-pub mod OrderedMaps
 pub mod PlaceLemmas
 pub mod SettingLemmas
 pub mod Sizes

@@ -8,7 +8,7 @@ use Rattle.std.specs.Ordering.{is_lt, is_eq}
 use Rattle.std.specs.List.{All, insert}
 use Rattle.std.specs.List.Sorted.{IsPartitionedBy, IsPartitionPoint}
 use Rattle.base_core.specs.OrderedMap.{Map, IsBelow, IsOrderedMap, BeginsAbove, key_order, put, value_at}
-use Rattle.flat_db.proofs.OrderedMaps.{EndsBelow, below_then, above_turned, begins_above_then, no_value_before, value_behind, value_here, put_behind, put_over, put_before, same_key, is_at_key, key_itself}
+use Rattle.base_core.proofs.OrderedMaps.{EndsBelow, below_then, above_turned, begins_above_then, no_value_before, value_behind, value_here, put_behind, put_over, put_before, same_key, is_at_key, key_itself}
 use Rattle.flat_db.specs.Entries.{part_of, pair_of, pairs_of}
 use Rattle.flat_db.specs.Places.{IsPlaceOf}
 use Rattle.flat_db.specs.declared.entries.Entry.{Entry}

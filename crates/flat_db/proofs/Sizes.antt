@@ -8,8 +8,8 @@ use Rattle.std.specs.Prelude.{fold, flat_map}
 use Rattle.std.specs.BTreeMap.{insert_entry}
 use Rattle.base_core.specs.Escapes.{escaped_byte, escaped, Spells}
 use Rattle.base_core.specs.OrderedMap.{Map, IsOrderedMap, key_order, put, value_at}
-use Rattle.base_core.proofs.EscapeLemmas.{byte_cases, escaped_short}
-use Rattle.flat_db.proofs.OrderedMaps.{no_value_before, same_key, value_first}
+use Rattle.base_core.proofs.EscapeLemmas.{escaped_bound, byte_cases, escaped_short}
+use Rattle.base_core.proofs.OrderedMaps.{no_value_before, same_key, value_first}
 use Rattle.flat_db.specs.FlatText.{pair_line, canonical_text, SaysPair, SaysPairs, FlatTextOf}
 use Rattle.flat_db.specs.Entries.{part_of, pair_of, pairs_of}
 use Rattle.flat_db.specs.declared.entries.Entry.{Entry}
@@ -48,13 +48,6 @@ text_part bytes entries n =
     )
 
 -- ---- the text of a map that was read is at most twice as long
-
-escaped_bound : (bytes : List ℕ) → length (escaped bytes) ≤ 2 * length bytes
-unfolding escaped
-escaped_bound [] = omega arith
-escaped_bound (byte ∷ bytes) = ⊎_elim
-    (λ one. omega (arith, one, escaped_bound bytes, length-append (escaped_byte byte) (flat_map escaped_byte bytes)))
-    (λ two. omega (arith, two, escaped_bound bytes, length-append (escaped_byte byte) (flat_map escaped_byte bytes))) (escaped_short byte)
 
 spelled_bound : (bytes field : List ℕ) → Spells bytes field → length bytes ≤ length field
 spelled_bound [] field spells = omega arith

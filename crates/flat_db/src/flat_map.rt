@@ -10,9 +10,9 @@ ghost use Rattle.flat_db.specs.Places.{IsPlaceOf};
 ghost use Rattle.flat_db.specs.Writing.{AddsBytes};
 
 use crate::entries::{Entry, Span, part};
-use crate::reading::{field_size, in_order, line_size, read_lines, text_size};
+use crate::reading::{in_order, line_size, read_lines, text_size};
 use crate::writing::{Piece, write_pairs};
-use base_core::{Disk, FLAT_LIMIT, Failed, Flaw, KEY_LIMIT, NoMemory, VALUE_LIMIT, compare_keys};
+use base_core::{Disk, FLAT_LIMIT, Failed, Flaw, KEY_LIMIT, NoMemory, VALUE_LIMIT, compare_keys, escaped_size};
 use memchr::memchr_iter;
 use std::alloc::Global;
 use std::marker::Model;
@@ -184,7 +184,7 @@ impl FlatMap {
         requires value { length value.now ≤ VALUE_LIMIT }
         ensures { result ≡ length (canonical_text (put self.now key.now value.now)) }
     {
-        let line = (field_size(key) + field_size(value) + 2) as u64;
+        let line = (escaped_size(key) + escaped_size(value) + 2) as u64;
         match entry_of(&self.bytes, &self.entries, key) {
             Some(old) => self.size - line_size(&self.bytes, old) + line,
             None => self.size + line,

@@ -46,20 +46,11 @@ pub(crate) fn in_order(bytes: &[u8], entries: &mut Vec<Entry>) -> Result<(), All
     Ok(())
 }
 
-// How many bytes the field of these bytes has, at most two for each.
-#[tactic(auto, using(crate::proofs::FieldSizes::escaped_bound))]
-pub(crate) fn field_size(bytes: &[u8]) -> usize
-    ensures size { result ≡ length (escaped bytes.now) }
-    ensures bound { result ≤ 2 * length bytes.now }
-{
-    escaped_size(bytes)
-}
-
 // The size of a pair's line.
 pub(crate) fn line_size(bytes: &[u8], entry: Entry) -> u64
     ensures { result ≡ length (pair_line (part_of bytes.now entry.key) (part_of bytes.now entry.value)) }
 {
-    (field_size(part(bytes, entry.key)) + field_size(part(bytes, entry.value)) + 2) as u64
+    (escaped_size(part(bytes, entry.key)) + escaped_size(part(bytes, entry.value)) + 2) as u64
 }
 
 // The size of the canonical text.

@@ -1,7 +1,7 @@
 use Rattle.std.proofs.Common.{◌≡◌, ◌++◌, ℕ, List, length, sym, ◌∙◌, ap, subst, arith}
 use Rattle.std.specs.List.{All}
 use Rattle.base_core.specs.OrderedMap.{Map, IsOrderedMap, put}
-use Rattle.flat_db.proofs.OrderedMaps.{put_ordered}
+use Rattle.base_core.proofs.OrderedMaps.{put_ordered}
 use Rattle.flat_db.specs.FlatText.{canonical_text}
 use Rattle.flat_db.specs.Entries.{part_of, pair_of, pairs_of, EndsBy}
 use Rattle.flat_db.specs.Kept.{IsKept}

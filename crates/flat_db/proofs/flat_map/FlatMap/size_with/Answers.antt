@@ -47,7 +47,7 @@ returns-in-Some c =
       was,
       line_within m c.args.key.now (part_of bytes c.in-Some.old.value) found,
       size_old m c.args.key.now c.args.value.now (part_of bytes c.in-Some.old.value) (subst IsOrderedMap c.self.view_is c.self.invariant.ordered) found,
-      line_is c.args.key.now c.args.value.now c.args.key.now c.args.value.now c.field_size.result c.field_size-2.result refl refl c.field_size.ensures.size c.field_size-2.ensures.size,
+      line_is c.args.key.now c.args.value.now c.args.key.now c.args.value.now c.escaped_size.result c.escaped_size-2.result refl refl c.escaped_size.ensures.size c.escaped_size-2.ensures.size,
     )
 
 pub returns-in-None : goal.returns-in-None
@@ -58,4 +58,4 @@ returns-in-None c =
     let none : value_at m c.args.key.now ≡ None =
     value_is bytes c.args.key.now c.self.inside.entries.items c.deref.result.now c.deref-2.result.now c.entry_of.result m c.deref.ensures.value c.deref-2.ensures.value c.self.view_is c.entry_of.ensures.value
     ∙ ap (option_map (λ (entry : Entry). part_of bytes entry.value)) c.in-None.is in
-    omega (arith, counted, size_new m c.args.key.now c.args.value.now none, line_is c.args.key.now c.args.value.now c.args.key.now c.args.value.now c.field_size.result c.field_size-2.result refl refl c.field_size.ensures.size c.field_size-2.ensures.size)
+    omega (arith, counted, size_new m c.args.key.now c.args.value.now none, line_is c.args.key.now c.args.value.now c.args.key.now c.args.value.now c.escaped_size.result c.escaped_size-2.result refl refl c.escaped_size.ensures.size c.escaped_size-2.ensures.size)

@@ -2,7 +2,8 @@ use Rattle.std.proofs.Common.{◌≡◌, ◌+◌, ◌∙◌, Bool, true, false, 
 use Rattle.std.specs.Prelude.{if◌then◌else◌}
 use Rattle.db_core.specs.MemorySessions.{counting_kind}
 use Rattle.db_core.specs.declared.fault.DbFault.TheVariants.{Full}
-use Rattle.db_core.proofs.Trees.{tree_some, tree_without, nothing_there}
+use Rattle.base_core.proofs.OrderedMaps.{without_absent}
+use Rattle.db_core.proofs.Trees.{tree_some, tree_without}
 use Rattle.db_core.proofs.MemoryLemmas.{deleted_memory, kept_memory, delete_owed}
 use Rattle.db_core.proofs.tests.map_db.MapDbDb.delete.Goals as goal
 
@@ -15,7 +16,7 @@ returns-then-is_none-clause-answer g c =
     let m = map (λ e. (e.0.items, e.1.items)) c.args.self.now.map.entries in
     record {
       ok = delete_owed 4 c.args.self.now.in_transaction m (map (λ e. (e.0.items, e.1.items)) c.args.self.now.saved.entries) c.args.self.now.changes c.args.self.now.saved_changes c.args.self.now.has_changed c.args.key.now false none;
-      done = kept_memory (counting_kind 4) c.args.self.now.in_transaction m (map (λ e. (e.0.items, e.1.items)) c.args.self.now.saved.entries) c.args.self.now.changes c.args.self.now.saved_changes c.args.self.now.has_changed (c.requires.within refl) c.args.key.now none (nothing_there m c.args.key.now none);
+      done = kept_memory (counting_kind 4) c.args.self.now.in_transaction m (map (λ e. (e.0.items, e.1.items)) c.args.self.now.saved.entries) c.args.self.now.changes c.args.self.now.saved_changes c.args.self.now.has_changed (c.requires.within refl) c.args.key.now none (without_absent m c.args.key.now none);
       refused = tt;
       after = tt;
     }

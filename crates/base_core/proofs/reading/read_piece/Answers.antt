@@ -1,7 +1,7 @@
 use Rattle.std.proofs.Common.{◌≡◌, ◌≤◌, ◌+◌, ℕ, List, ◌++◌, length, take, drop, sym, ◌∙◌, ap, arith}
 use Rattle.std.proofs.lemmas.List.{take-append-le, length-take-le}
 use Rattle.std.proofs.Math.Seq.{take-append-add, take-add}
-use Rattle.base_core.proofs.pieces.read_piece.Goals as goal
+use Rattle.base_core.proofs.reading.read_piece.Goals as goal
 
 -- the bytes up to a place, and then those that were read
 joined : (at count : ℕ) (old got post b : List ℕ) → at ≤ length old → count ≤ length got → take count got ≡ take count (drop at b) → take at old ≡ take at b → take (at + count) (take at old ++ (got ++ post)) ≡ take (at + count) b

@@ -1,15 +1,15 @@
--- Ordered maps: what a put does to them, and that their values tell them apart.
-use Rattle.std.proofs.Common.{◌≡◌, ◌≢◌, ◌⊎◌, inl, inr, ℕ, Bool, true, false, cond, List, [], ◌∷◌, ◌++◌, Option, Some, None, refl, sym, ◌∙◌, ap, subst}
+-- Ordered maps: what a put and a removal do to them, and that their values tell them apart.
+use Rattle.std.proofs.Common.{◌≡◌, ◌≢◌, ℕ, Bool, true, false, cond, List, [], ◌∷◌, ◌++◌, Option, Some, None, refl, sym, ◌∙◌, ap, subst}
 use Rattle.std.proofs.lemmas.Cmp.{tied_itself}
 use Rattle.std.specs.declared.cmp.Ordering.{Ordering}
 use Rattle.std.specs.declared.cmp.Ordering.TheVariants.{Less, Equal, Greater}
 use Rattle.std.specs.Ordering.{ordering_reverse, match_ordering, is_eq}
-use Rattle.std.specs.Prelude.{fold}
-use Rattle.std.specs.Map.{lookup}
+use Rattle.std.specs.Prelude.{is_some}
+use Rattle.std.specs.Map.{lookup, remove_entry}
 use Rattle.std.specs.BTreeMap.{insert_entry, is_at}
 use Rattle.std.specs.Cmp.Lexicographic.{nat_list_cmp_total}
 use Rattle.std.specs.FinMap.{slice_cmp-IsAntisymmetric, nat_cmp-IsAntisymmetric}
-use Rattle.base_core.specs.OrderedMap.{Map, IsBelow, IsOrderedMap, BeginsAbove, key_order, put, value_at}
+use Rattle.base_core.specs.OrderedMap.{Map, IsBelow, IsOrderedMap, BeginsAbove, key_order, put, value_at, without}
 
 -- ---- the order of keys
 
@@ -150,6 +150,48 @@ value_put (p ∷ m) key value other = by (value_put m key value other) (key_orde
         ap (λ (v : Option (List ℕ)). cond (is_at (key_order other) p.0) (Some p.1) v) later
         ∙ chosen_either (is_at (key_order other) key) (is_at (key_order other) p.0) (Some value) (Some p.1) (lookup (is_at (key_order other)) m)
         (λ one two. let equal : key ≡ p.0 = sym (is_at_key other key one) ∙ is_at_key other p.0 two in cc (sym (ap (λ (k : List ℕ). key_order k p.0) equal ∙ key_itself p.0) ∙ is))
+
+-- ---- a removal
+
+-- behind lower keys, and of the key's own pair
+pub without_behind : (before m : Map) (key : List ℕ) → EndsBelow before key → without (before ++ m) key ≡ before ++ without m key
+unfolding without
+without_behind [] m key below = refl
+without_behind (p ∷ before) m key below =
+    ap (λ (o : Ordering). cond (is_eq o) (before ++ m) (p ∷ remove_entry (is_at (key_order key)) (before ++ m))) (below_turned p.0 key below.0)
+    ∙ ap (λ (l : Map). p ∷ l) (without_behind before m key below.1)
+
+pub without_here : (key value : List ℕ) (m : Map) → without ((key, value) ∷ m) key ≡ m
+unfolding without
+without_here key value m = ap (λ (o : Ordering). cond (is_eq o) m ((key, value) ∷ remove_entry (is_at (key_order key)) m)) (key_itself key)
+
+-- a key that has no value leaves the map as it is
+pub without_absent : (m : Map) (key : List ℕ) → is_some (value_at m key) ≡ false → without m key ≡ m
+unfolding value_at without
+without_absent [] key none = refl
+without_absent (p ∷ m) key none = by (is_eq (key_order key p.0)) none (without_absent m key)
+  where
+    by : (b : Bool) → is_some (cond b (Some p.1) (lookup (is_at (key_order key)) m)) ≡ false → (is_some (lookup (is_at (key_order key)) m) ≡ false → remove_entry (is_at (key_order key)) m ≡ m) → cond b m (p ∷ remove_entry (is_at (key_order key)) m) ≡ p ∷ m
+    by true none later = absurd (cc none)
+    by false none later = ap (λ (l : Map). p ∷ l) (later none)
+
+without_begins : (a key : List ℕ) (m : Map) → BeginsAbove a m → IsOrderedMap m → BeginsAbove a (without m key)
+unfolding without
+without_begins a key [] begins ordered = tt
+without_begins a key (p ∷ m) begins ordered = by (is_eq (key_order key p.0))
+  where
+    by : (b : Bool) → BeginsAbove a (cond b m (p ∷ remove_entry (is_at (key_order key)) m))
+    by true = begins_above_then a p.0 m begins ordered.0
+    by false = begins
+
+pub without_ordered : (m : Map) (key : List ℕ) → IsOrderedMap m → IsOrderedMap (without m key)
+unfolding without
+without_ordered [] key ordered = tt
+without_ordered (p ∷ m) key ordered = by (without_begins p.0 key m ordered.0 ordered.1) (without_ordered m key ordered.1) (is_eq (key_order key p.0))
+  where
+    by : BeginsAbove p.0 (remove_entry (is_at (key_order key)) m) → IsOrderedMap (remove_entry (is_at (key_order key)) m) → (b : Bool) → IsOrderedMap (cond b m (p ∷ remove_entry (is_at (key_order key)) m))
+    by begins later true = ordered.1
+    by begins later false = (begins, later)
 
 -- ---- maps with the same values
 

@@ -1,7 +1,7 @@
 use Rattle.std.proofs.Common.{◌≡◌, ◌≤◌, List, ℕ, length, take, sym, ◌∙◌, ap, arith}
 use Rattle.std.specs.Prelude.{is_some}
 use Rattle.std.proofs.lemmas.List.{take_all}
-use Rattle.base_core.proofs.pieces.fill.Goals as goal
+use Rattle.base_core.proofs.reading.fill.Goals as goal
 
 whole : (at : ℕ) (into b : List ℕ) → length into ≤ at → at ≤ length into → length b ≡ length into → take at into ≡ take at b → into ≡ b
 whole at into b over under same read = sym (take_all at into over) ∙ read ∙ take_all at b (omega arith)

@@ -1,6 +1,6 @@
 use Rattle.std.proofs.Common.{◌≡◌, ◌≤◌, ◌-◌, ℕ, List, Some, length, take}
 use Rattle.base_core.specs.CrashImages.{StaysAs}
-use Rattle.base_core.proofs.pieces.fill.Given as goal
+use Rattle.base_core.proofs.reading.fill.Given as goal
 
 abbrev pub invariant-loop-at : goal.invariant-loop-at
 invariant-loop-at g l = record {

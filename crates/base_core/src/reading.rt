@@ -1,11 +1,10 @@
-// A file goes in and out in pieces.
-ghost use Rattle.std.specs.Prelude.{◌≡◌, ◌≤◌, ◌<◌, ◌++◌, ◌+◌, take, ℕ, List, Some, IsSome, is_some, IfOk, OnOk, OnErr, length, vec_len};
-ghost use Rattle.std.specs.Option.{option_map};
+// A file is read whole.
+ghost use Rattle.std.specs.Prelude.{◌≡◌, ◌≤◌, ◌<◌, ◌+◌, take, ℕ, List, Some, IsSome, IfOk, OnOk, length, vec_len};
 ghost use Rattle.base_core.specs.Causes.{HasCause, Rose};
 ghost use Rattle.base_core.specs.CrashImages.{StaysAs};
-ghost use Rattle.base_core.specs.DiskCalls.{fresh_bytes, HasLength};
+ghost use Rattle.base_core.specs.DiskCalls.{HasLength};
 
-use crate::{Disk, Failed, PIECE_SIZE};
+use crate::{Disk, Failed};
 use std::alloc::Global;
 
 /// Why a file could not be read whole.
@@ -13,24 +12,6 @@ use std::alloc::Global;
 pub enum ReadFault {
     NoMemory,
     DiskFault,
-}
-
-/// Adds the bytes at the end of the new file, in pieces of at most `PIECE_SIZE`.
-pub fn write_pieces<D: Disk>(disk: &mut D, bytes: &[u8]) -> Result<(), Failed>
-    requires { IsSome (D.state disk.old).reads → IsSome (D.state disk.old).fresh }
-    ensures written { OnOk result (fresh_bytes (D.state disk.new).fresh ≡ option_map (λ b. b ++ bytes.now) (fresh_bytes (D.state disk.old).fresh)) }
-    ensures begun { OnOk result (is_some (D.state disk.new).fresh ≡ is_some (D.state disk.old).fresh) }
-    ensures stays { StaysAs (D.state disk.old) (D.state disk.new) }
-    ensures cause { HasCause (D.state disk.old).faults (D.state disk.new).faults result }
-    ensures rest { D.disk_rest disk.old disk.new }
-{
-    let mut at = 0;
-    while at < bytes.len() {
-        let count = PIECE_SIZE.min(bytes.len() - at);
-        disk.new_write(&bytes[at..at + count])?;
-        at += count;
-    }
-    Ok(())
 }
 
 /// All the bytes of the main file, whose length was told before. No other call of the disk is made than reads.
