@@ -1,4 +1,5 @@
 pub mod Answers
 pub mod MemorySessions
+pub mod Opening
 pub mod Sessions
 pub mod WholeTransactions

@@ -4,11 +4,13 @@
 mod change;
 mod db;
 mod fault;
+mod pair_limits;
 mod transaction;
 
 pub use change::Change;
 pub use db::Db;
 pub use fault::{DbFault, OpenFault};
+pub use pair_limits::pair_fault;
 pub use transaction::run_changes;
 
 #[cfg(test)]

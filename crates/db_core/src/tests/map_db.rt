@@ -1,8 +1,8 @@
 // A session whose maps are in memory alone.
 ghost use Rattle.std.specs.Prelude.{◌≤◌};
 
-use crate::{Db, DbFault};
-use base_core::{Disk, KEY_LIMIT, Pair, VALUE_LIMIT, compare_keys};
+use crate::{Db, DbFault, pair_fault};
+use base_core::{Disk, Pair, compare_keys};
 use std::alloc::Global;
 use std::collections::BTreeMap;
 use std::mem;
@@ -104,18 +104,8 @@ impl<D: Disk> Db<D> for MapDb {
         key: &[u8],
         value: &[u8],
     ) -> Result<(), DbFault> {
-        if key.is_empty() {
-            return Err(DbFault::KeyEmpty);
-        }
-        if key.len() as u64 > KEY_LIMIT {
-            return Err(DbFault::KeyTooLong {
-                length: key.len() as u64,
-            });
-        }
-        if value.len() as u64 > VALUE_LIMIT {
-            return Err(DbFault::ValueTooLong {
-                length: value.len() as u64,
-            });
+        if let Some(fault) = pair_fault(key, value) {
+            return Err(fault);
         }
         if self.changes >= 4 {
             return Err(DbFault::Full {
