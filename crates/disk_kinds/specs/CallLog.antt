@@ -91,6 +91,15 @@ pub record Stops (old new : CallLog) : Type 0 where
   pub lacking : log_left old < 64 → log_left new ≡ log_left old
   pub fault : CountsFault old new
 
+-- a call that makes one landing, where so many are pending, and that finds no room for one more, or the stop: it takes its
+-- room where there is so much of both, and does nothing
+pub record TurnsAway (pending : ℕ) (old new : CallLog) : Type 0 where
+  pub steps : (log_steps new ≡ log_steps old ++ kept ∷ []) ⊎ (log_steps new ≡ log_steps old)
+  pub covered : 64 ≤ log_left old → 64 * (pending + 1) ≤ old.room → log_left new + 64 ≡ log_left old
+  pub lacking : log_left old < 64 → log_left new ≡ log_left old
+  pub full : old.room < 64 * (pending + 1) → log_left new ≡ log_left old
+  pub fault : CountsFault old new
+
 -- a failure is counted, and nothing is noted
 pub record Refuses (old new : CallLog) : Type 0 where
   pub steps : log_steps new ≡ log_steps old

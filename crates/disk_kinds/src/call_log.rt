@@ -4,6 +4,7 @@ ghost use Rattle.std.specs.List.{list_all};
 ghost use Rattle.disk_kinds.specs.History.{total_size, size_of, is_within};
 
 use crate::buffers::{copied, with_room};
+use crate::landings::Landings;
 use base_core::{Failed, NoMemory};
 use std::alloc::Global;
 
@@ -83,9 +84,10 @@ pub(crate) fn is_listed(fails: &[u64], number: u64) -> bool
 }
 
 impl CallLog {
-    ghost use Rattle.std.specs.Prelude.{[], IsErr};
+    ghost use Rattle.std.specs.Prelude.{◌⊎◌, ◌<◌, [], IsErr, OnOk, OnErr};
     ghost use Rattle.disk_kinds.specs.History.{step_of, output};
-    ghost use Rattle.disk_kinds.specs.CallLog.{IsNewLog, SameBounds, NotesStep, Becomes, ReadsOnly, Stops, Refuses, IsRefused, log_left, log_next};
+    ghost use Rattle.disk_kinds.specs.Landings.{Passes};
+    ghost use Rattle.disk_kinds.specs.CallLog.{IsNewLog, SameBounds, NotesStep, Becomes, ReadsOnly, Stops, TurnsAway, Refuses, IsRefused, log_left, log_next};
 
     pub(crate) fn new(alloc: Global, room: u64, fails: &[u64]) -> Result<CallLog, NoMemory>
         ensures { IfOk result (λ log. IsNewLog log room fails.now) }
@@ -200,8 +202,8 @@ impl CallLog {
         Admission::Served
     }
 
-    /// Counts a call after the stop.
-    pub(crate) fn call_stopped(&mut self)
+    // Counts a call after the stop.
+    fn call_stopped(&mut self)
         ensures stops { Stops self.old self.new }
         ensures next { self.new.calls ≡ log_next self.old }
         ensures bounds { SameBounds self.old self.new }
@@ -211,6 +213,26 @@ impl CallLog {
         if self.has_room(0) {
             self.note(Event::Kept);
         }
+    }
+
+    /// Lets a call that makes one landing go on, or counts it where what is pending has no room, or the stop is met.
+    pub(crate) fn admit_landing(&mut self, landings: &Landings) -> Result<(), Failed>
+        requires pending { 64 * landings.now.pending ≤ self.old.room }
+        ensures exactly { IsErr result ↔ ((self.old.room < 64 * (landings.now.pending + 1)) ⊎ Passes landings.now.stop (landings.now.made + 1)) }
+        ensures stays { OnOk result (self.new ≡ self.old) }
+        ensures turns { OnErr result (TurnsAway landings.now.pending self.old self.new) }
+        ensures next { OnErr result (self.new.calls ≡ log_next self.old) }
+        ensures bounds { SameBounds self.old self.new }
+    {
+        if !landings.has_room(self.room, 1) {
+            self.count_lacking();
+            return Err(Failed);
+        }
+        if landings.is_stopped(1) {
+            self.call_stopped();
+            return Err(Failed);
+        }
+        Ok(())
     }
 
     /// Counts a call as [`call`](CallLog::call) does, whose two events have these bytes for their own.

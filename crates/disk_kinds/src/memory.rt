@@ -293,14 +293,7 @@ impl Disk for MemDisk {
         ensures cause { HasCause (mem_state self.old).faults (mem_state self.new).faults result }
         ensures rest { MemRest self.old self.new }
     {
-        if !self.landings.has_room(self.log.room(), 1) {
-            self.log.count_lacking();
-            return Err(Failed);
-        }
-        if self.landings.is_stopped(1) {
-            self.log.call_stopped();
-            return Err(Failed);
-        }
+        self.log.admit_landing(&self.landings)?;
         match self
             .log
             .call(Event::Cut(length), Event::CutPending(length), false)
@@ -430,14 +423,7 @@ impl Disk for MemDisk {
     {
         self.new_file = NewFile::Absent;
         self.publishes = self.publishes.saturating_add(1);
-        if !self.landings.has_room(self.log.room(), 1) {
-            self.log.count_lacking();
-            return Err(Failed);
-        }
-        if self.landings.is_stopped(1) {
-            self.log.call_stopped();
-            return Err(Failed);
-        }
+        self.log.admit_landing(&self.landings)?;
         match self
             .log
             .call(Event::Published, Event::PublishPending, false)

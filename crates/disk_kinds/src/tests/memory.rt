@@ -1,4 +1,4 @@
-use crate::{MemDisk, MemHost};
+use crate::{Counts, MemDisk, MemHost};
 use base_core::{Disk, Failed, Host};
 use std::test::Fail;
 
@@ -23,68 +23,37 @@ fn read_and_sync<D: Disk>(disk: &mut D) -> Result<Option<u8>, Failed> {
     }
 }
 
-#[derive(Clone, Copy)]
-struct Case {
-    room: u64,
-    fails: &'static [u64],
-    is_new: bool,
-    faults: u64,
-    publishes: u64,
-}
-
-impl Case {
-    const fn new(
-        room: u64,
-        fails: &'static [u64],
-        is_new: bool,
-        faults: u64,
-        publishes: u64,
-    ) -> Self {
-        Case {
-            room,
-            fails,
-            is_new,
-            faults,
-            publishes,
-        }
-    }
-}
-
+// A room and the calls that are to fail there, whether the file is then the new one, the faults and the publishes.
+//
 // Four calls take 64 bytes of room each, and three bytes are written.
+const CASES: &[(u64, &[u64], bool, u64, u64)] = &[
+    (259, &[], true, 0, 1),
+    (258, &[], false, 1, 1),
+    (130, &[], false, 1, 0),
+    (63, &[], false, 1, 0),
+    (500, &[1], false, 1, 0),
+    (500, &[2], false, 1, 0),
+    (500, &[3], false, 1, 0),
+    (500, &[4], false, 1, 1),
+    (500, &[5], true, 0, 1),
+];
+
 #[test]
 fn a_new_file_takes_its_place_or_fails(rt: HostRuntime) -> Result<(), Fail> {
-    let cases = [
-        Case::new(259, &[], true, 0, 1),
-        Case::new(258, &[], false, 1, 1),
-        Case::new(130, &[], false, 1, 0),
-        Case::new(63, &[], false, 1, 0),
-        Case::new(500, &[1], false, 1, 0),
-        Case::new(500, &[2], false, 1, 0),
-        Case::new(500, &[3], false, 1, 0),
-        Case::new(500, &[4], false, 1, 1),
-        Case::new(500, &[5], true, 0, 1),
-    ];
-    for case in &cases {
-        assert!(rt; case.room >= 3);
-        let mut disk = MemDisk::new(rt.alloc(), Some(b"old"), case.room, case.fails)?;
-        let result = replace(&mut disk, b"new");
+    for (room, fails, is_new, faults, publishes) in CASES {
+        assert!(rt; *room >= 3);
+        let mut disk = MemDisk::new(rt.alloc(), Some(b"old"), *room, fails)?;
+        let is_ok = replace(&mut disk, b"new").is_ok();
         let (main, counts) = (disk.main(), disk.counts());
-        assert_eq!(rt; result.is_ok(), case.is_new, "with room {}", case.room);
-        assert_eq!(rt;
-            main == Some(b"new"),
-            case.is_new,
-            "with room {}",
-            case.room
-        );
-        assert_eq!(rt;
-            main == Some(b"old"),
-            !case.is_new,
-            "with room {}",
-            case.room
-        );
-        assert_eq!(rt; counts.faults, case.faults, "with room {}", case.room);
-        assert_eq!(rt; counts.publishes, case.publishes, "with room {}", case.room);
-        assert_eq!(rt; counts.written, 0);
+        let mains = [main == Some(b"new"), main == Some(b"old")];
+        assert_eq!(rt; is_ok, *is_new, "with room {room}");
+        assert_eq!(rt; mains, [*is_new, !*is_new], "with room {room}");
+        let wanted = Counts {
+            faults: *faults,
+            written: 0,
+            publishes: *publishes,
+        };
+        assert_eq!(rt; counts, wanted, "with room {room}");
     }
     Ok(())
 }
@@ -106,12 +75,11 @@ fn an_absent_file_is_replaced_and_read(rt: HostRuntime) -> Result<(), Fail> {
 fn a_host_tells_and_warns(rt: HostRuntime) -> Result<(), Fail> {
     let disk = MemDisk::new(rt.alloc(), Some(b"old"), 64 * 7 + 3, &[])?;
     let mut host = MemHost::new(rt.alloc(), disk, 4, &[2])?;
-    assert_eq!(rt; host.tell(b"ab"), Ok(()));
-    assert_eq!(rt; host.tell(b"c"), Err(Failed));
-    assert_eq!(rt; host.tell(b"cde"), Err(Failed));
+    let tells = [host.tell(b"ab"), host.tell(b"c"), host.tell(b"cde")];
+    assert_eq!(rt; tells, [Ok(()), Err(Failed), Err(Failed)]);
     assert_eq!(rt; replace(&mut host, b"new"), Ok(()));
-    assert_eq!(rt; host.tell(b"cd"), Ok(()));
-    assert_eq!(rt; host.tell(b""), Err(Failed));
+    let tells = [host.tell(b"cd"), host.tell(b"")];
+    assert_eq!(rt; tells, [Ok(()), Err(Failed)]);
     host.warn(b"abc");
     host.warn(b"def");
     assert_eq!(rt; host.told(), b"abcd".as_slice());

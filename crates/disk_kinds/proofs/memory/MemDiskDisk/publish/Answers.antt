@@ -4,17 +4,27 @@ use Rattle.disk_kinds.proofs.Time.{call_one_more}
 use Rattle.disk_kinds.proofs.Writing.{publish_pends}
 use Rattle.disk_kinds.proofs.memory.MemDiskDisk.publish.Goals as goal
 
-pub returns-then-is_stopped-clause-rest : goal.returns-then-is_stopped-clause-rest
-returns-then-is_stopped-clause-rest c = rest_after _ _ _ refl c.call_stopped.ensures.stops.steps c.call_stopped.ensures.bounds refl c.call_stopped.ensures.stops.fault.later (omega arith) (omega arith)
+pub returns-in_err-admit_landing-clause-rest : goal.returns-in_err-admit_landing-clause-rest
+returns-in_err-admit_landing-clause-rest c = rest_after _ _ _ refl c.in_err-admit_landing.ensures.turns.steps c.in_err-admit_landing.ensures.bounds refl c.in_err-admit_landing.ensures.turns.fault.later (omega arith) (omega arith)
 
 pub returns-in-Served-clause-rest : goal.returns-in-Served-clause-rest
-returns-in-Served-clause-rest c = rest_after _ _ _ refl (inl c.in-Served.ensures.becomes.steps) c.in-Served.ensures.bounds (ap (λ l. l.stop) c.settle.ensures ∙ ap (λ l. l.stop) c.add.ensures) (omega (arith, c.in-Served.ensures.becomes.faults)) (omega arith) (omega arith)
+returns-in-Served-clause-rest c =
+    let becomes = rw c.in_ok-admit_landing.ensures.stays at c.in-Served.ensures.becomes in
+    let bounds = rw c.in_ok-admit_landing.ensures.stays at c.in-Served.ensures.bounds in
+    rest_after _ _ _ refl (inl becomes.steps) bounds (ap (λ l. l.stop) c.settle.ensures ∙ ap (λ l. l.stop) c.add.ensures) (omega (arith, becomes.faults)) (omega arith) (omega arith)
 
 pub returns-in-Refused-clause-rest : goal.returns-in-Refused-clause-rest
-returns-in-Refused-clause-rest c = rest_after _ _ _ refl (inl c.in-Refused.ensures.becomes.steps) c.in-Refused.ensures.bounds (ap (λ l. l.stop) c.add-in-Refused.ensures) c.in-Refused.ensures.becomes.fault.later (omega arith) (omega arith)
+returns-in-Refused-clause-rest c =
+    let becomes = rw c.in_ok-admit_landing.ensures.stays at c.in-Refused.ensures.becomes in
+    let bounds = rw c.in_ok-admit_landing.ensures.stays at c.in-Refused.ensures.bounds in
+    rest_after _ _ _ refl (inl becomes.steps) bounds (ap (λ l. l.stop) c.add-in-Refused.ensures) becomes.fault.later (omega arith) (omega arith)
 
 pub returns-in-Refused-clause-call : goal.returns-in-Refused-clause-call
-returns-in-Refused-clause-call c = call_one_more _ _ _ _ _ _ _ _ _ _ _ _ c.in-Refused.ensures.becomes.steps refl
+returns-in-Refused-clause-call c =
+    let becomes = rw c.in_ok-admit_landing.ensures.stays at c.in-Refused.ensures.becomes in
+    call_one_more _ _ _ _ _ _ _ _ _ _ _ _ becomes.steps refl
 
 pub returns-in-Refused-clause-pends : goal.returns-in-Refused-clause-pends
-returns-in-Refused-clause-pends c = publish_pends _ _ refl c.in-Refused.ensures.becomes.steps (search rules) (search rules)
+returns-in-Refused-clause-pends c =
+    let becomes = rw c.in_ok-admit_landing.ensures.stays at c.in-Refused.ensures.becomes in
+    publish_pends _ _ refl becomes.steps (search rules) (search rules)
