@@ -1,14 +1,15 @@
 -- The canonical text of a map reads back.
-use Rattle.std.proofs.Common.{◌≡◌, ◌≢◌, inl, inr, ℕ, zero, suc, List, [], ◌∷◌, ◌++◌, length, refl, sym, ◌∙◌, ap, subst, append_assoc, arith, length-append}
+use Rattle.std.proofs.Common.{◌≡◌, ◌≢◌, inl, inr, ℕ, zero, suc, Bool, true, false, cond, List, [], ◌∷◌, ◌++◌, length, refl, sym, ◌∙◌, ap, subst, append_assoc, arith, length-append}
 use Rattle.std.proofs.lemmas.List.{append-nil}
 use Rattle.std.specs.declared.cmp.Ordering.{Ordering}
 use Rattle.std.specs.declared.cmp.Ordering.TheVariants.{Less, Equal, Greater}
 use Rattle.std.specs.Ordering.{match_ordering}
 use Rattle.std.specs.Prelude.{fold}
 use Rattle.std.specs.List.{All}
-use Rattle.std.specs.BTreeMap.{insert_entry}
+use Rattle.std.specs.BTreeMap.{insert_entry, is_at}
+use Rattle.std.specs.Map.{remove_entry}
 use Rattle.base_core.specs.Escapes.{escaped}
-use Rattle.base_core.specs.OrderedMap.{Map, IsBelow, IsOrderedMap, BeginsAbove, key_order, put}
+use Rattle.base_core.specs.OrderedMap.{Map, IsBelow, IsOrderedMap, BeginsAbove, key_order, put, without}
 use Rattle.base_core.proofs.EscapeLemmas.{spells_escaped}
 use Rattle.base_core.proofs.OrderedMaps.{EndsBelow, below_then, put_behind, put_ordered, nothing_below}
 use Rattle.flat_db.specs.FlatText.{pair_line, canonical_text, HasLine, SaysPair, SaysPairs, FlatTextOf}
@@ -39,6 +40,15 @@ put_none (p ∷ m) key value some none = by (put_none m key value some none.1) (
     by later Less = (some, none)
     by later Equal = (none.0, none.1)
     by later Greater = (none.0, later)
+
+without_none : (m : Map) (key : List ℕ) → NoneEmpty m → NoneEmpty (without m key)
+unfolding without
+without_none [] key none = tt
+without_none (p ∷ m) key none = by (without_none m key none.1) (is_at (key_order key) p.0)
+  where
+    by : NoneEmpty (remove_entry (is_at (key_order key)) m) → (b : Bool) → NoneEmpty (cond b m (p ∷ remove_entry (is_at (key_order key)) m))
+    by later true = none.1
+    by later false = (none.0, later)
 
 -- ---- all pairs put
 
@@ -120,6 +130,13 @@ canonical_reads_back m ordered all = reads_back m ordered (none_from m all)
 
 some_key : (key : List ℕ) → IsBelow [] key → key ≢ []
 some_key key below is = nothing_below [] (subst (λ (k : List ℕ). IsBelow [] k) is below)
+
+-- no key is empty after a pair is put, or taken out
+pub put_some : (m : Map) (key value : List ℕ) → IsBelow [] key → All (λ (p : List ℕ × List ℕ). p.0 ≢ []) m → All (λ (p : List ℕ × List ℕ). p.0 ≢ []) (put m key value)
+put_some m key value below all = all_from (put m key value) (put_none m key value (some_key key below) (none_from m all))
+
+pub without_some : (m : Map) (key : List ℕ) → All (λ (p : List ℕ × List ℕ). p.0 ≢ []) m → All (λ (p : List ℕ × List ℕ). p.0 ≢ []) (without m key)
+without_some m key all = all_from (without m key) (without_none m key (none_from m all))
 
 pub put_reads_back : PutReadsBack
 put_reads_back text key value m below of =

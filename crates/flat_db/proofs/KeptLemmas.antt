@@ -1,12 +1,13 @@
 -- A map that is kept in memory, and bytes that are added to its own.
-use Rattle.std.proofs.Common.{◌≡◌, ◌≤◌, ℕ, List, [], ◌++◌, Result, Ok, Err, length, take, refl, sym, ◌∙◌, ap, subst, arith, length-append}
+use Rattle.std.proofs.Common.{◌≡◌, ◌≢◌, ◌≤◌, ℕ, List, [], ◌++◌, Result, Ok, Err, length, take, refl, sym, ◌∙◌, ap, subst, arith, length-append}
 use Rattle.std.specs.Prelude.{OnErr}
 use Rattle.std.specs.List.{All}
 use Rattle.std.proofs.lemmas.List.{take_at, take_all}
 use Rattle.base_core.specs.OrderedMap.{Map, IsOrderedMap}
 use Rattle.flat_db.specs.FlatText.{canonical_text, SaysPairs, put_all, FlatTextOf}
 use Rattle.flat_db.specs.Entries.{pairs_of, EndsBy}
-use Rattle.flat_db.specs.Kept.{IsKept}
+use Rattle.flat_db.specs.Kept.{IsKept, SameEntries, map_among}
+use Rattle.flat_db.specs.declared.pairs.Pairs.{Pairs}
 use Rattle.flat_db.specs.declared.entries.Entry.{Entry}
 use Rattle.flat_db.proofs.LineLemmas.{pairs_below, ends_later}
 
@@ -17,16 +18,30 @@ grown_pairs bytes new more entries is ends =
 pub grown_ends : (bytes new more : List ℕ) (entries : List Entry) → new ≡ bytes ++ more → All (EndsBy (length bytes)) entries → All (EndsBy (length new)) entries
 grown_ends bytes new more entries is ends = ends_later (length bytes) (length new) entries (omega (arith, ap length is, length-append bytes more)) ends
 
-pub grown_kept : (bytes new more : List ℕ) (entries : List Entry) (size : ℕ) → new ≡ bytes ++ more → length new ≤ 4294967295 → IsKept bytes entries size → IsKept new entries size
-grown_kept bytes new more entries size is short kept =
-    let same = grown_pairs bytes new more entries is kept.ends in
+pub grown_map : (bytes new more : List ℕ) (pairs : Pairs) → new ≡ bytes ++ more → IsKept bytes pairs → map_among new pairs ≡ map_among bytes pairs
+grown_map bytes new more pairs is kept = grown_pairs bytes new more pairs.entries.items is kept.ends
+
+pub grown_kept : (bytes new more : List ℕ) (pairs : Pairs) → new ≡ bytes ++ more → length new ≤ 4294967295 → IsKept bytes pairs → IsKept new pairs
+grown_kept bytes new more pairs is short kept =
+    let same = grown_map bytes new more pairs is kept in
     record {
       ordered = subst IsOrderedMap (sym same) kept.ordered;
-      ends = grown_ends bytes new more entries is kept.ends;
+      some = subst (All (λ p. p.0 ≢ [])) (sym same) kept.some;
+      ends = grown_ends bytes new more pairs.entries.items is kept.ends;
       counted = kept.counted ∙ ap (λ (m : Map). length (canonical_text m)) (sym same);
       short = short;
       small = kept.small;
     }
+
+pub same_kept : (bytes : List ℕ) (a b : Pairs) → SameEntries a b → IsKept bytes a → IsKept bytes b
+same_kept bytes a b same kept = record {
+  ordered = subst IsOrderedMap (ap (pairs_of bytes) (sym same.items)) kept.ordered;
+  some = subst (All (λ p. p.0 ≢ [])) (ap (pairs_of bytes) (sym same.items)) kept.some;
+  ends = subst (All (EndsBy (length bytes))) (sym same.items) kept.ends;
+  counted = same.size ∙ kept.counted ∙ ap (λ (l : List Entry). length (canonical_text (pairs_of bytes l))) (sym same.items);
+  short = kept.short;
+  small = omega (arith, same.size, kept.small);
+}
 
 pub on_err : {T E P : Type 0} (r : Result T E) → P → OnErr r P
 on_err (Ok x) p = tt

@@ -4,7 +4,9 @@ pub mod FieldLemmas
 pub mod KeptLemmas
 pub mod LaterWins
 pub mod LineLemmas
+pub mod OpeningLemmas
+pub mod PairLemmas
 pub mod PlaceLemmas
-pub mod SettingLemmas
+pub mod SessionLemmas
 pub mod Sizes
 pub mod TextLaws

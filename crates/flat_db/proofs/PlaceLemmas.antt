@@ -1,16 +1,19 @@
 -- The place of a key among entries, and what stands there.
-use Rattle.std.proofs.Common.{◌≡◌, ◌≢◌, ℕ, zero, suc, ◌+◌, ◌<◌, ◌≤◌, Bool, true, false, List, [], ◌∷◌, ◌++◌, Some, None, length, get_or, set, take, drop, refl, sym, ◌∙◌, ap, subst, arith}
+use Rattle.std.proofs.Common.{◌≡◌, ◌≢◌, ◌⊎◌, inl, inr, ℕ, zero, suc, ◌+◌, ◌<◌, ◌≤◌, Bool, true, false, cond, List, [], ◌∷◌, ◌++◌, Some, None, length, get_or, set, take, drop, refl, sym, ◌∙◌, ap, subst, arith}
 use Rattle.std.proofs.lemmas.List.{take-map, drop-map, drop_more, drop_all, take-append-drop, get_or-map, get_or-take, length-map, length-take-le, length-drop, get_or-drop, set_split, map-append}
 use Rattle.std.proofs.Math.Numerals.{add-one}
 use Rattle.std.specs.declared.cmp.Ordering.{Ordering}
 use Rattle.std.specs.declared.cmp.Ordering.TheVariants.{Less, Equal, Greater}
 use Rattle.std.specs.Ordering.{is_lt, is_eq}
-use Rattle.std.specs.List.{All, insert}
+use Rattle.std.specs.List.{All, insert, remove, find}
+use Rattle.std.specs.Prelude.{not, slice_get}
+use Rattle.std.proofs.Math.Nat.{eq-or-lt_of_le}
 use Rattle.std.specs.List.Sorted.{IsPartitionedBy, IsPartitionPoint}
-use Rattle.base_core.specs.OrderedMap.{Map, IsBelow, IsOrderedMap, BeginsAbove, key_order, put, value_at}
-use Rattle.base_core.proofs.OrderedMaps.{EndsBelow, below_then, above_turned, begins_above_then, no_value_before, value_behind, value_here, put_behind, put_over, put_before, same_key, is_at_key, key_itself}
+use Rattle.base_core.specs.OrderedMap.{Map, IsBelow, IsOrderedMap, BeginsAbove, key_order, put, value_at, without}
+use Rattle.base_core.proofs.OrderedMaps.{EndsBelow, below_then, below_turned, without_behind, without_here, above_turned, begins_above_then, no_value_before, value_behind, value_here, put_behind, put_over, put_before, same_key, is_at_key, key_itself}
 use Rattle.flat_db.specs.Entries.{part_of, pair_of, pairs_of}
-use Rattle.flat_db.specs.Places.{IsPlaceOf}
+use Rattle.db_core.specs.Sessions.{first_from, first_above}
+use Rattle.flat_db.specs.Places.{IsPlaceOf, HasKeyAt, LacksKeyAt}
 use Rattle.flat_db.specs.declared.entries.Entry.{Entry}
 
 is_below : (o : Ordering) → is_lt o ≡ true → o ≡ Less
@@ -70,103 +73,173 @@ module _ (bytes key : List ℕ) where
           let at = entry_at (place + k) d below in
           not_below _ (point.1 (place + k) at.0 (omega arith) below) (subst (λ (p : List ℕ × List ℕ). IsBelow p.0 key) (get_or-drop place (pairs_of bytes entries) k d ∙ at.1) is)
 
-  -- ---- what stands at the place
+-- ---- what stands at the place
 
-  module _ (entries : List Entry) (place : ℕ) (ordered : IsOrderedMap (pairs_of bytes entries)) (at : IsPlaceOf key (pairs_of bytes entries) place) where
-    front : Map
-    front = take place (pairs_of bytes entries)
+module _ (key : List ℕ) (m : Map) (place : ℕ) where
+  parts : m ≡ take place m ++ drop place m
+  parts = sym (take-append-drop place m)
 
-    lower : EndsBelow front key
-    unfolding front
-    lower = ends_below (take place (pairs_of bytes entries)) key at.lower
+  front_below : IsPlaceOf key m place → EndsBelow (take place m) key
+  front_below at = ends_below (take place m) key at.lower
 
-    whole : pairs_of bytes entries ≡ front ++ drop place (pairs_of bytes entries)
-    unfolding front
-    whole = sym (take-append-drop place (pairs_of bytes entries))
+  rest_ordered : IsOrderedMap m → IsOrderedMap (drop place m)
+  rest_ordered ordered = from place m ordered
+    where
+      from : (n : ℕ) (l : Map) → IsOrderedMap l → IsOrderedMap (drop n l)
+      from zero l is = is
+      from (suc n) [] is = tt
+      from (suc n) (p ∷ l) is = from n l is.1
 
-    rest_ordered : IsOrderedMap (drop place (pairs_of bytes entries))
-    rest_ordered = from place (pairs_of bytes entries) ordered
+  -- the value at the key
+  pub value_own : (has : HasKeyAt key m place) → value_at m key ≡ Some has.value
+  value_own has =
+      ap (λ (l : Map). value_at l key) parts ∙ value_behind (take place m) (drop place m) key (front_below has.at)
+      ∙ ap (λ (l : Map). value_at l key) has.here ∙ value_here key has.value (drop (place + 1) m)
+
+  pub value_lacks : LacksKeyAt key m place → IsOrderedMap m → value_at m key ≡ None
+  value_lacks lacks ordered =
+      ap (λ (l : Map). value_at l key) parts ∙ value_behind (take place m) (drop place m) key (front_below lacks.at)
+      ∙ no_value_before key (drop place m) lacks.above (rest_ordered ordered)
+
+  -- the map with a pair put, and without the key's own
+  pub put_own : (value : List ℕ) → HasKeyAt key m place → put m key value ≡ take place m ++ ((key, value) ∷ drop (place + 1) m)
+  put_own value has =
+      ap (λ (l : Map). put l key value) parts ∙ put_behind (take place m) (drop place m) key value (front_below has.at)
+      ∙ ap (λ (l : Map). take place m ++ put l key value) has.here ∙ ap (λ (l : Map). take place m ++ l) (put_over key value has.value (drop (place + 1) m))
+
+  pub put_between : (value : List ℕ) → LacksKeyAt key m place → put m key value ≡ take place m ++ ((key, value) ∷ drop place m)
+  put_between value lacks =
+      ap (λ (l : Map). put l key value) parts ∙ put_behind (take place m) (drop place m) key value (front_below lacks.at)
+      ∙ ap (λ (l : Map). take place m ++ l) (put_before key value (drop place m) lacks.above)
+
+  pub without_own : HasKeyAt key m place → without m key ≡ take place m ++ drop (place + 1) m
+  without_own has =
+      ap (λ (l : Map). without l key) parts ∙ without_behind (take place m) (drop place m) key (front_below has.at)
+      ∙ ap (λ (l : Map). take place m ++ without l key) has.here ∙ ap (λ (l : Map). take place m ++ l) (without_here key has.value (drop (place + 1) m))
+
+-- ---- the first pair from a key on
+
+-- what is looked for stands behind those that do not pass
+find_behind : (test : List ℕ × List ℕ → Bool) (n : ℕ) (m : Map) → n ≤ length m → All (λ (p : List ℕ × List ℕ). test p ≡ false) (take n m) → ((p : List ℕ × List ℕ) (rest : Map) → drop n m ≡ p ∷ rest → test p ≡ true) → find test m ≡ slice_get m n
+find_behind test zero [] within fails passes = refl
+find_behind test zero (p ∷ m) within fails passes = ap (λ (b : Bool). cond b (Some p) (find test m)) (passes p m refl)
+find_behind test (suc n) [] within fails passes = absurd (omega (arith, within))
+find_behind test (suc n) (p ∷ m) within fails passes =
+    ap (λ (b : Bool). cond b (Some p) (find test m)) (fails 0 p (omega arith))
+    ∙ find_behind test n m (omega (arith, within)) (λ k d below. fails (suc k) d (omega (arith, below))) passes
+
+first_of : (P : List ℕ × List ℕ → Type 0) (m : Map) (n : ℕ) (p : List ℕ × List ℕ) (rest : Map) → drop n m ≡ p ∷ rest → All P (drop n m) → P p
+first_of P m n p rest is all = subst (λ (l : Map). All P l → P p) (sym is) (λ here. here 0 p (omega arith)) all
+
+is_lt_below : (a b : List ℕ) → IsBelow a b → is_lt (key_order a b) ≡ true
+is_lt_below a b below = ap is_lt below
+
+isnt_lt : (a b : List ℕ) → ¬ IsBelow a b → is_lt (key_order a b) ≡ false
+isnt_lt a b isnt = by (key_order a b) refl
+  where
+    by : (o : Ordering) → key_order a b ≡ o → is_lt o ≡ false
+    by Less is = absurd (isnt is)
+    by Equal is = refl
+    by Greater is = refl
+
+pub first_from_place : (key : List ℕ) (m : Map) (place : ℕ) → IsPlaceOf key m place → first_from m key ≡ slice_get m place
+first_from_place key m place at = find_behind (λ p. not (is_lt (key_order p.0 key))) place m at.within
+    (λ k d below. ap not (is_lt_below (get_or (take place m) k d).0 key (at.lower k d below)))
+    (λ p rest is. ap not (isnt_lt p.0 key (first_of (λ q. ¬ IsBelow q.0 key) m place p rest is at.others)))
+
+-- no lower key, and not the key itself, is above it
+not_above : (a key : List ℕ) → IsBelow a key → is_lt (key_order key a) ≡ false
+not_above a key below = ap is_lt (below_turned a key below)
+
+pub first_above_between : (key : List ℕ) (m : Map) (place : ℕ) → LacksKeyAt key m place → first_above m key ≡ slice_get m place
+first_above_between key m place lacks = find_behind (λ p. is_lt (key_order key p.0)) place m lacks.at.within
+    (λ k d below. not_above (get_or (take place m) k d).0 key (lacks.at.lower k d below))
+    (λ p rest is. is_lt_below key p.0 (subst (BeginsAbove key) is lacks.above))
+
+pub first_above_own : (key : List ℕ) (m : Map) (place : ℕ) → HasKeyAt key m place → IsOrderedMap m → first_above m key ≡ slice_get m (place + 1)
+first_above_own key m place has ordered =
+    let rest : IsOrderedMap ((key, has.value) ∷ drop (place + 1) m) = subst IsOrderedMap has.here (rest_ordered key m place ordered) in
+    find_behind (λ p. is_lt (key_order key p.0)) (place + 1) m (there has.here)
+    fails
+    (λ p l is. is_lt_below key p.0 (subst (BeginsAbove key) is rest.0))
+  where
+    there : drop place m ≡ (key, has.value) ∷ drop (place + 1) m → place + 1 ≤ length m
+    there is = omega (arith, ap length is, length-drop place m)
+
+    fails : All (λ (p : List ℕ × List ℕ). is_lt (key_order key p.0) ≡ false) (take (place + 1) m)
+    fails k d below = by (eq-or-lt_of_le (omega (arith, in_front)))
       where
-        from : (n : ℕ) (m : Map) → IsOrderedMap m → IsOrderedMap (drop n m)
-        from zero m is = is
-        from (suc n) [] is = tt
-        from (suc n) (p ∷ m) is = from n m is.1
+        in_front : k < place + 1
+        in_front = omega (arith, below, length-take-le (place + 1) m (there has.here))
 
-    -- what is not below the key and differs from it is above it
-    above : (p : List ℕ × List ℕ) (m : Map) → drop place (pairs_of bytes entries) ≡ p ∷ m → p.0 ≢ key → IsBelow key p.0
-    above p m is differs = by (key_order key p.0) refl
-      where
-        by : (o : Ordering) → key_order key p.0 ≡ o → IsBelow key p.0
-        by Less o = o
-        by Equal o = absurd (differs (sym (same_key key p.0 o)))
-        by Greater o = absurd (at.others 0 p (omega (arith, ap length is)) (subst (λ (l : Map). IsBelow (get_or l 0 p).0 key) (sym is) (above_turned key p.0 o)))
+        by : (k ≡ place) ⊎ (k < place) → is_lt (key_order key (get_or (take (place + 1) m) k d).0) ≡ false
+        by (inl own) =
+            ap (λ (p : List ℕ × List ℕ). is_lt (key_order key p.0))
+                (get_or-take (place + 1) m k d in_front ∙ ap (λ (i : ℕ). get_or m i d) (omega (arith, own)) ∙ sym (get_or-drop place m 0 d) ∙ ap (λ (l : Map). get_or l 0 d) has.here)
+            ∙ ap is_lt (key_itself key)
+        by (inr lower) =
+            ap (λ (p : List ℕ × List ℕ). is_lt (key_order key p.0)) (get_or-take (place + 1) m k d in_front ∙ sym (get_or-take place m k d lower))
+            ∙ not_above (get_or (take place m) k d).0 key (has.at.lower k d (omega (arith, lower, length-take-le place m has.at.within)))
 
-    value_there : value_at (pairs_of bytes entries) key ≡ value_at (drop place (pairs_of bytes entries)) key
-    value_there = ap (λ (m : Map). value_at m key) whole ∙ value_behind front (drop place (pairs_of bytes entries)) key lower
+-- ---- entries for pairs
 
-    put_there : (value : List ℕ) → put (pairs_of bytes entries) key value ≡ front ++ put (drop place (pairs_of bytes entries)) key value
-    put_there value = ap (λ (m : Map). put m key value) whole ∙ put_behind front (drop place (pairs_of bytes entries)) key value lower
+module _ (bytes : List ℕ) (entries : List Entry) (place : ℕ) where
+  -- the pair of the entry at the place
+  pub entry_pair : (entry : Entry) → place < length entries → entry ≡ get_or entries place entry → drop place (pairs_of bytes entries) ≡ pair_of bytes entry ∷ drop (place + 1) (pairs_of bytes entries)
+  entry_pair entry below is =
+      drop_more (pairs_of bytes entries) place (pair_of bytes entry) (omega (arith, below, length-map entries (pair_of bytes)))
+      ∙ ap (λ (p : List ℕ × List ℕ). p ∷ drop (place + 1) (pairs_of bytes entries)) (get_or-map (pair_of bytes) entries place entry (pair_of bytes entry) below ∙ ap (pair_of bytes) (sym is))
 
-    -- beyond the end
-    begins_end : length entries ≤ place → BeginsAbove key (drop place (pairs_of bytes entries))
-    begins_end over = subst (BeginsAbove key) (sym (drop_all place (pairs_of bytes entries) (omega (arith, over, length-map entries (pair_of bytes))))) tt
+  behind : (n : ℕ) → pairs_of bytes (drop n entries) ≡ drop n (pairs_of bytes entries)
+  behind n = sym (drop-map (pair_of bytes) n entries)
 
-    -- at an entry
-    here : (entry : Entry) → place < length entries → entry ≡ get_or entries place entry → drop place (pairs_of bytes entries) ≡ pair_of bytes entry ∷ drop (place + 1) (pairs_of bytes entries)
-    here entry below is =
-        drop_more (pairs_of bytes entries) place (pair_of bytes entry) (omega (arith, below, length-map entries (pair_of bytes)))
-        ∙ ap (λ (p : List ℕ × List ℕ). p ∷ drop (place + 1) (pairs_of bytes entries)) (get_or-map (pair_of bytes) entries place entry (pair_of bytes entry) below ∙ ap (pair_of bytes) (sym is))
+  in_front : pairs_of bytes (take place entries) ≡ take place (pairs_of bytes entries)
+  in_front = sym (take-map (pair_of bytes) place entries)
 
-    begins_other : (entry : Entry) → place < length entries → entry ≡ get_or entries place entry → part_of bytes entry.key ≢ key → BeginsAbove key (drop place (pairs_of bytes entries))
-    begins_other entry below is differs =
-        let stands = here entry below is in
-        subst (BeginsAbove key) (sym stands) (above (pair_of bytes entry) (drop (place + 1) (pairs_of bytes entries)) stands differs)
+  one_behind : pairs_of bytes (drop (suc place) entries) ≡ drop (place + 1) (pairs_of bytes entries)
+  one_behind = behind (suc place) ∙ ap (λ (n : ℕ). drop n (pairs_of bytes entries)) (sym (add-one place))
 
-    pub value_none : BeginsAbove key (drop place (pairs_of bytes entries)) → value_at (pairs_of bytes entries) key ≡ None
-    value_none begins = value_there ∙ no_value_before key (drop place (pairs_of bytes entries)) begins rest_ordered
+  pub set_pairs : (new : Entry) → place < length entries → pairs_of bytes (set entries place new) ≡ take place (pairs_of bytes entries) ++ (pair_of bytes new ∷ drop (place + 1) (pairs_of bytes entries))
+  set_pairs new below =
+      ap (pairs_of bytes) (set_split entries place new below) ∙ map-append (pair_of bytes) (take place entries) (new ∷ drop (suc place) entries)
+      ∙ ap (λ (l : Map). l ++ (pair_of bytes new ∷ pairs_of bytes (drop (suc place) entries))) in_front
+      ∙ ap (λ (l : Map). take place (pairs_of bytes entries) ++ (pair_of bytes new ∷ l)) one_behind
 
-    pub value_end : length entries ≤ place → value_at (pairs_of bytes entries) key ≡ None
-    value_end over = value_none (begins_end over)
+  pub insert_pairs : (new : Entry) → pairs_of bytes (insert entries place new) ≡ take place (pairs_of bytes entries) ++ (pair_of bytes new ∷ drop place (pairs_of bytes entries))
+  insert_pairs new =
+      map-append (pair_of bytes) (take place entries) (new ∷ drop place entries)
+      ∙ ap (λ (l : Map). l ++ (pair_of bytes new ∷ pairs_of bytes (drop place entries))) in_front
+      ∙ ap (λ (l : Map). take place (pairs_of bytes entries) ++ (pair_of bytes new ∷ l)) (behind place)
 
-    pub value_other : (entry : Entry) → place < length entries → entry ≡ get_or entries place entry → part_of bytes entry.key ≢ key → value_at (pairs_of bytes entries) key ≡ None
-    value_other entry below is differs = value_none (begins_other entry below is differs)
+  pub remove_pairs : pairs_of bytes (remove entries place) ≡ take place (pairs_of bytes entries) ++ drop (place + 1) (pairs_of bytes entries)
+  remove_pairs =
+      map-append (pair_of bytes) (take place entries) (drop (suc place) entries)
+      ∙ ap (λ (l : Map). l ++ pairs_of bytes (drop (suc place) entries)) in_front
+      ∙ ap (λ (l : Map). take place (pairs_of bytes entries) ++ l) one_behind
 
-    pub value_own : (entry : Entry) → place < length entries → entry ≡ get_or entries place entry → part_of bytes entry.key ≡ key → value_at (pairs_of bytes entries) key ≡ Some (part_of bytes entry.value)
-    value_own entry below is own =
-        value_there ∙ ap (λ (m : Map). value_at m key) (here entry below is)
-        ∙ ap (λ (k : List ℕ). value_at ((k, part_of bytes entry.value) ∷ drop (place + 1) (pairs_of bytes entries)) key) own
-        ∙ value_here key (part_of bytes entry.value) (drop (place + 1) (pairs_of bytes entries))
+-- the place that was found is the key's own, or lies between others
+pub own_place : (bytes key : List ℕ) (entries : List Entry) (place : ℕ) (entry : Entry) → IsPlaceOf key (pairs_of bytes entries) place → place < length entries → entry ≡ get_or entries place entry → part_of bytes entry.key ≡ key → HasKeyAt key (pairs_of bytes entries) place
+own_place bytes key entries place entry at below is own = record {
+  at = at;
+  value = part_of bytes entry.value;
+  here = entry_pair bytes entries place entry below is ∙ ap (λ (k : List ℕ). (k, part_of bytes entry.value) ∷ drop (place + 1) (pairs_of bytes entries)) own;
+}
 
-    -- a new entry in the place of the key's own, and between the others
-    pub put_own : (entry new : Entry) → place < length entries → entry ≡ get_or entries place entry → part_of bytes entry.key ≡ key → part_of bytes new.key ≡ key
-        → pairs_of bytes (set entries place new) ≡ put (pairs_of bytes entries) key (part_of bytes new.value)
-    unfolding front
-    put_own entry new below is own key_is =
-        ap (pairs_of bytes) (set_split entries place new below) ∙ map-append (pair_of bytes) (take place entries) (new ∷ drop (suc place) entries)
-        ∙ ap (λ (l : Map). l ++ (pair_of bytes new ∷ pairs_of bytes (drop (suc place) entries))) (sym (take-map (pair_of bytes) place entries))
-        ∙ ap (λ (l : Map). take place (pairs_of bytes entries) ++ (pair_of bytes new ∷ l)) (sym (drop-map (pair_of bytes) (suc place) entries) ∙ ap (λ (n : ℕ). drop n (pairs_of bytes entries)) (sym (add-one place)))
-        ∙ ap (λ (k : List ℕ). take place (pairs_of bytes entries) ++ ((k, part_of bytes new.value) ∷ drop (place + 1) (pairs_of bytes entries))) key_is
-        ∙ ap (λ (m : Map). take place (pairs_of bytes entries) ++ m) (sym (put_over key (part_of bytes new.value) (part_of bytes entry.value) (drop (place + 1) (pairs_of bytes entries))))
-        ∙ ap (λ (k : List ℕ). take place (pairs_of bytes entries) ++ put ((k, part_of bytes entry.value) ∷ drop (place + 1) (pairs_of bytes entries)) key (part_of bytes new.value)) (sym own)
-        ∙ ap (λ (m : Map). take place (pairs_of bytes entries) ++ put m key (part_of bytes new.value)) (sym (here entry below is))
-        ∙ sym (put_there (part_of bytes new.value))
+pub end_place : (bytes key : List ℕ) (entries : List Entry) (place : ℕ) → IsPlaceOf key (pairs_of bytes entries) place → length entries ≤ place → LacksKeyAt key (pairs_of bytes entries) place
+end_place bytes key entries place at over = record {
+  at = at;
+  above = subst (BeginsAbove key) (sym (drop_all place (pairs_of bytes entries) (omega (arith, over, length-map entries (pair_of bytes))))) tt;
+}
 
-    pub put_new : (new : Entry) → BeginsAbove key (drop place (pairs_of bytes entries)) → part_of bytes new.key ≡ key
-        → pairs_of bytes (insert entries place new) ≡ put (pairs_of bytes entries) key (part_of bytes new.value)
-    unfolding front
-    put_new new begins key_is =
-        map-append (pair_of bytes) (take place entries) (new ∷ drop place entries)
-        ∙ ap (λ (l : Map). l ++ (pair_of bytes new ∷ pairs_of bytes (drop place entries))) (sym (take-map (pair_of bytes) place entries))
-        ∙ ap (λ (l : Map). take place (pairs_of bytes entries) ++ (pair_of bytes new ∷ l)) (sym (drop-map (pair_of bytes) place entries))
-        ∙ ap (λ (k : List ℕ). take place (pairs_of bytes entries) ++ ((k, part_of bytes new.value) ∷ drop place (pairs_of bytes entries))) key_is
-        ∙ ap (λ (m : Map). take place (pairs_of bytes entries) ++ m) (sym (put_before key (part_of bytes new.value) (drop place (pairs_of bytes entries)) begins))
-        ∙ sym (put_there (part_of bytes new.value))
-
-    pub put_end : (new : Entry) → length entries ≤ place → part_of bytes new.key ≡ key → pairs_of bytes (insert entries place new) ≡ put (pairs_of bytes entries) key (part_of bytes new.value)
-    put_end new over key_is = put_new new (begins_end over) key_is
-
-    pub put_other : (entry new : Entry) → place < length entries → entry ≡ get_or entries place entry → part_of bytes entry.key ≢ key → part_of bytes new.key ≡ key → pairs_of bytes (insert entries place new) ≡ put (pairs_of bytes entries) key (part_of bytes new.value)
-    put_other entry new below is differs key_is = put_new new (begins_other entry below is differs) key_is
+pub other_place : (bytes key : List ℕ) (entries : List Entry) (place : ℕ) (entry : Entry) → IsPlaceOf key (pairs_of bytes entries) place → place < length entries → entry ≡ get_or entries place entry → part_of bytes entry.key ≢ key → LacksKeyAt key (pairs_of bytes entries) place
+other_place bytes key entries place entry at below is differs =
+    let stands = entry_pair bytes entries place entry below is in
+    record { at = at; above = subst (BeginsAbove key) (sym stands) (by (key_order key (part_of bytes entry.key)) refl (first_of (λ q. ¬ IsBelow q.0 key) (pairs_of bytes entries) place (pair_of bytes entry) (drop (place + 1) (pairs_of bytes entries)) stands at.others)) }
+  where
+    by : (o : Ordering) → key_order key (part_of bytes entry.key) ≡ o → ¬ IsBelow (part_of bytes entry.key) key → IsBelow key (part_of bytes entry.key)
+    by Less o isnt = o
+    by Equal o isnt = absurd (differs (sym (same_key key (part_of bytes entry.key) o)))
+    by Greater o isnt = absurd (isnt (above_turned key (part_of bytes entry.key) o))
 
 -- what a comparison with `Equal` says
 pub same_part : (a b c : List ℕ) (o : Ordering) (r : Bool) → a ≡ c → o ≡ key_order a b → r ≡ is_eq o → r ≡ true → c ≡ b

@@ -1,19 +1,21 @@
 -- Sizes of lines and of texts.
-use Rattle.std.proofs.Common.{◌≡◌, ◌≢◌, ◌⊎◌, inl, inr, ⊎_elim, ℕ, ◌+◌, ◌*◌, ◌<◌, ◌≤◌, cond, List, [], ◌∷◌, ◌++◌, Some, None, length, get_or, take, drop, refl, sym, ◌∙◌, ap, append_assoc, arith, length-append}
+use Rattle.std.proofs.Common.{◌≡◌, ◌≢◌, ◌⊎◌, inl, inr, ⊎_elim, ℕ, ◌+◌, ◌*◌, ◌<◌, ◌≤◌, List, [], ◌∷◌, ◌++◌, length, get_or, take, drop, refl, sym, ◌∙◌, ap, append_assoc, arith, length-append}
 use Rattle.std.proofs.lemmas.List.{take_more, map-append, append-nil, take-append-drop}
 use Rattle.std.specs.declared.cmp.Ordering.{Ordering}
 use Rattle.std.specs.declared.cmp.Ordering.TheVariants.{Less, Equal, Greater}
-use Rattle.std.specs.Ordering.{match_ordering, is_eq}
+use Rattle.std.specs.Ordering.{match_ordering}
 use Rattle.std.specs.Prelude.{fold, flat_map}
 use Rattle.std.specs.BTreeMap.{insert_entry}
 use Rattle.base_core.specs.Escapes.{escaped_byte, escaped, Spells}
-use Rattle.base_core.specs.OrderedMap.{Map, IsOrderedMap, key_order, put, value_at}
-use Rattle.base_core.proofs.EscapeLemmas.{escaped_bound, byte_cases, escaped_short}
-use Rattle.base_core.proofs.OrderedMaps.{no_value_before, same_key, value_first}
+use Rattle.base_core.specs.OrderedMap.{Map, IsOrderedMap, key_order, put, without}
+use Rattle.base_core.proofs.EscapeLemmas.{escaped_bound, byte_cases}
+use Rattle.base_core.proofs.OrderedMaps.{same_key}
 use Rattle.flat_db.specs.FlatText.{pair_line, canonical_text, SaysPair, SaysPairs, FlatTextOf}
 use Rattle.flat_db.specs.Entries.{part_of, pair_of, pairs_of}
 use Rattle.flat_db.specs.declared.entries.Entry.{Entry}
+use Rattle.flat_db.specs.Places.{HasKeyAt, LacksKeyAt}
 use Rattle.flat_db.proofs.Canonical.{put_pair}
+use Rattle.flat_db.proofs.PlaceLemmas.{put_own, put_between, without_own}
 
 pub line_length : (key value : List ℕ) → length (pair_line key value) ≡ length (escaped key) + length (escaped value) + 2
 unfolding pair_line
@@ -45,6 +47,17 @@ text_part bytes entries n =
       arith,
       ap length (sym (text_then (pairs_of bytes (take n entries)) (pairs_of bytes (drop n entries))) ∙ ap canonical_text (sym (map-append (pair_of bytes) (take n entries) (drop n entries)) ∙ ap (pairs_of bytes) (take-append-drop n entries))),
       length-append (canonical_text (pairs_of bytes (take n entries))) (canonical_text (pairs_of bytes (drop n entries))),
+    )
+
+-- the line of an entry is no longer than the text
+pub line_in_text : (bytes : List ℕ) (entries : List Entry) (place : ℕ) (entry d : Entry) → place < length entries → entry ≡ get_or entries place d → length (pair_line (part_of bytes entry.key) (part_of bytes entry.value)) ≤ length (canonical_text (pairs_of bytes entries))
+line_in_text bytes entries place entry d below is =
+    omega (
+      arith,
+      ap (λ (e : Entry). length (pair_line (part_of bytes e.key) (part_of bytes e.value))) is,
+      ap length (text_more bytes entries place d below),
+      length-append (canonical_text (pairs_of bytes (take place entries))) (pair_line (part_of bytes (get_or entries place d).key) (part_of bytes (get_or entries place d).value)),
+      text_part bytes entries (place + 1),
     )
 
 -- ---- the text of a map that was read is at most twice as long
@@ -97,55 +110,47 @@ pub text_bound : (text : List ℕ) (m : Map) → FlatTextOf text m → length (c
 text_bound text m of =
     omega (arith, ap (λ (n : Map). length (canonical_text n)) of.later_wins, puts_bound of.pairs [], lines_bound of.pairs text [] of.lines)
 
--- ---- the size with a pair put
+-- ---- the size with a pair put, and without the key's own
 
--- the value at a key, by how the key goes with the first one
-value_by : (p : List ℕ × List ℕ) (m : Map) (key : List ℕ) (o : Ordering) → key_order key p.0 ≡ o → value_at (p ∷ m) key ≡ cond (is_eq o) (Some p.1) (value_at m key)
-value_by p m key o is = value_first p m key ∙ ap (λ (u : Ordering). cond (is_eq u) (Some p.1) (value_at m key)) is
+module _ (key : List ℕ) (m : Map) (place : ℕ) where
+  size_parts : (front back : Map) → length (canonical_text (front ++ back)) ≡ length (canonical_text front) + length (canonical_text back)
+  size_parts front back = ap length (text_then front back) ∙ length-append (canonical_text front) (canonical_text back)
 
-pub size_new : (m : Map) (key value : List ℕ) → value_at m key ≡ None → length (canonical_text (put m key value)) ≡ length (canonical_text m) + length (pair_line key value)
-unfolding put
-size_new [] key value none = omega (arith, length-append (pair_line key value) [])
-size_new (p ∷ m) key value none = by (λ later. size_new m key value later) (key_order key p.0) refl
-  where
-    by : (value_at m key ≡ None → length (canonical_text (insert_entry key_order m key value)) ≡ length (canonical_text m) + length (pair_line key value)) → (o : Ordering) → key_order key p.0 ≡ o
-        → length (canonical_text (match_ordering o ((key, value) ∷ p ∷ m) ((p.0, value) ∷ m) (p ∷ insert_entry key_order m key value))) ≡ length (canonical_text (p ∷ m)) + length (pair_line key value)
-    by later Less is = omega (arith, length-append (pair_line key value) (canonical_text (p ∷ m)))
-    by later Equal is = absurd (cc (sym (value_by p m key Equal is) ∙ none))
-    by later Greater is =
-        omega (arith, later (sym (value_by p m key Greater is) ∙ none), length-append (pair_line p.0 p.1) (canonical_text m), length-append (pair_line p.0 p.1) (canonical_text (insert_entry key_order m key value)))
+  size_first : (value : List ℕ) (back : Map) → length (canonical_text ((key, value) ∷ back)) ≡ length (pair_line key value) + length (canonical_text back)
+  size_first value back = length-append (pair_line key value) (canonical_text back)
 
-pub size_old : (m : Map) (key value old : List ℕ) → IsOrderedMap m → value_at m key ≡ Some old
-    → length (canonical_text (put m key value)) + length (pair_line key old) ≡ length (canonical_text m) + length (pair_line key value)
-unfolding put
-size_old [] key value old ordered some = absurd (cc (sym (no_value_before key [] tt tt) ∙ some))
-size_old (p ∷ m) key value old ordered some = by (λ later. size_old m key value old ordered.1 later) (key_order key p.0) refl
-  where
-    by : (value_at m key ≡ Some old → length (canonical_text (insert_entry key_order m key value)) + length (pair_line key old) ≡ length (canonical_text m) + length (pair_line key value)) → (o : Ordering) → key_order key p.0 ≡ o
-        → length (canonical_text (match_ordering o ((key, value) ∷ p ∷ m) ((p.0, value) ∷ m) (p ∷ insert_entry key_order m key value))) + length (pair_line key old) ≡ length (canonical_text (p ∷ m)) + length (pair_line key value)
-    by later Less is = absurd (cc (sym (no_value_before key (p ∷ m) is ordered) ∙ some))
-    by later Equal is =
-        let own : p.1 ≡ old = cc (sym (value_by p m key Equal is) ∙ some) in
-        let same = same_key key p.0 is in
-        omega (
-          arith,
-          ap (λ (k : List ℕ). length (pair_line k value)) same,
-          ap (λ (k : List ℕ). length (pair_line k old)) same,
-          ap (λ (v : List ℕ). length (pair_line p.0 v)) own,
-          length-append (pair_line p.0 value) (canonical_text m),
-          length-append (pair_line p.0 p.1) (canonical_text m),
-        )
-    by later Greater is =
-        omega (arith, later (sym (value_by p m key Greater is) ∙ some), length-append (pair_line p.0 p.1) (canonical_text m), length-append (pair_line p.0 p.1) (canonical_text (insert_entry key_order m key value)))
+  size_whole : length (canonical_text m) ≡ length (canonical_text (take place m)) + length (canonical_text (drop place m))
+  size_whole = ap (λ (l : Map). length (canonical_text l)) (sym (take-append-drop place m)) ∙ size_parts (take place m) (drop place m)
 
--- the line of a key's pair is in the text
-pub line_within : (m : Map) (key old : List ℕ) → value_at m key ≡ Some old → length (pair_line key old) ≤ length (canonical_text m)
-line_within [] key old some = absurd (cc (sym (no_value_before key [] tt tt) ∙ some))
-line_within (p ∷ m) key old some = by (λ later. line_within m key old later) (key_order key p.0) refl
-  where
-    by : (value_at m key ≡ Some old → length (pair_line key old) ≤ length (canonical_text m)) → (o : Ordering) → key_order key p.0 ≡ o → length (pair_line key old) ≤ length (canonical_text (p ∷ m))
-    by later Less is = omega (arith, later (sym (value_by p m key Less is) ∙ some), length-append (pair_line p.0 p.1) (canonical_text m))
-    by later Equal is =
-        let own : p.1 ≡ old = cc (sym (value_by p m key Equal is) ∙ some) in
-        omega (arith, ap (λ (k : List ℕ). length (pair_line k old)) (same_key key p.0 is), ap (λ (v : List ℕ). length (pair_line p.0 v)) own, length-append (pair_line p.0 p.1) (canonical_text m))
-    by later Greater is = omega (arith, later (sym (value_by p m key Greater is) ∙ some), length-append (pair_line p.0 p.1) (canonical_text m))
+  pub size_without_own : (has : HasKeyAt key m place) → length (canonical_text (without m key)) + length (pair_line key has.value) ≡ length (canonical_text m)
+  size_without_own has =
+      omega (
+        arith,
+        size_whole,
+        ap (λ (l : Map). length (canonical_text l)) has.here,
+        size_first has.value (drop (place + 1) m),
+        ap (λ (l : Map). length (canonical_text l)) (without_own key m place has),
+        size_parts (take place m) (drop (place + 1) m),
+      )
+
+  pub size_over_own : (value : List ℕ) (has : HasKeyAt key m place) → length (canonical_text (put m key value)) + length (pair_line key has.value) ≡ length (canonical_text m) + length (pair_line key value)
+  size_over_own value has =
+      omega (
+        arith,
+        size_whole,
+        ap (λ (l : Map). length (canonical_text l)) has.here,
+        size_first has.value (drop (place + 1) m),
+        ap (λ (l : Map). length (canonical_text l)) (put_own key m place value has),
+        size_parts (take place m) ((key, value) ∷ drop (place + 1) m),
+        size_first value (drop (place + 1) m),
+      )
+
+  pub size_in_between : (value : List ℕ) → LacksKeyAt key m place → length (canonical_text (put m key value)) ≡ length (canonical_text m) + length (pair_line key value)
+  size_in_between value lacks =
+      omega (
+        arith,
+        size_whole,
+        ap (λ (l : Map). length (canonical_text l)) (put_between key m place value lacks),
+        size_parts (take place m) ((key, value) ∷ drop place m),
+        size_first value (drop place m),
+      )

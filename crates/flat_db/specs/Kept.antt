@@ -1,15 +1,25 @@
 -- What holds of a map that is kept in memory.
-use Rattle.std.specs.Prelude.{◌≡◌, ℕ, ◌≤◌, ◌^◌, List, length}
+use Rattle.std.specs.Prelude.{◌≡◌, ◌≢◌, ℕ, ◌≤◌, ◌^◌, List, [], length}
 use Rattle.std.specs.List.{All}
-use Rattle.base_core.specs.OrderedMap.{IsOrderedMap}
+use Rattle.base_core.specs.OrderedMap.{Map, IsOrderedMap}
 use Rattle.flat_db.specs.FlatText.{canonical_text}
 use Rattle.flat_db.specs.Entries.{EndsBy, pairs_of}
-use Rattle.flat_db.specs.declared.entries.Entry.{Entry}
+use Rattle.flat_db.specs.declared.pairs.Pairs.{Pairs}
 
--- Its keys rise, each part stands among the bytes, and its text's size is known. Places and sizes are small.
-pub record IsKept (bytes : List ℕ) (entries : List Entry) (size : ℕ) : Type 0 where
-  pub ordered : IsOrderedMap (pairs_of bytes entries)
-  pub ends : All (EndsBy (length bytes)) entries
-  pub counted : size ≡ length (canonical_text (pairs_of bytes entries))
+-- the map whose pairs stand among these bytes
+abbrev pub map_among : List ℕ → Pairs → Map
+map_among bytes pairs = pairs_of bytes pairs.entries.items
+
+-- Its keys rise and none is empty, each part stands among the bytes, and its text's size is known. Places and sizes are small.
+pub record IsKept (bytes : List ℕ) (pairs : Pairs) : Type 0 where
+  pub ordered : IsOrderedMap (map_among bytes pairs)
+  pub some : All (λ p. p.0 ≢ []) (map_among bytes pairs)
+  pub ends : All (EndsBy (length bytes)) pairs.entries.items
+  pub counted : pairs.size ≡ length (canonical_text (map_among bytes pairs))
   pub short : length bytes ≤ 4294967295
-  pub small : size ≤ 2 ^ 34
+  pub small : pairs.size ≤ 2 ^ 34
+
+-- the same entries and the same size, whatever room each has
+pub record SameEntries (old new : Pairs) : Type 0 where
+  pub items : new.entries.items ≡ old.entries.items
+  pub size : new.size ≡ old.size

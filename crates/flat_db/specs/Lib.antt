@@ -3,7 +3,9 @@ pub mod FlatText
 pub mod Kept
 pub mod Laws
 pub mod Lines
+pub mod Opening
 pub mod Places
 pub mod Reading
-pub mod SetPair
+pub mod Replacing
+pub mod Sessions
 pub mod Writing

@@ -5,12 +5,18 @@ mod entries;
 mod flat_map;
 mod laws;
 mod lines;
+mod opening;
+mod pairs;
+mod places;
 mod reading;
-mod setting;
+mod replacing;
+mod session;
 #[cfg(test)]
 mod tests;
 mod writing;
 
 pub use flat_map::{FlatFault, FlatMap, read_flat};
 pub use laws::{canonical_text_reads_back, flawless_text_opens_once};
-pub use setting::{SetFault, set_pair};
+pub use opening::{check_db, open_db};
+pub use replacing::create;
+pub use session::FlatDb;

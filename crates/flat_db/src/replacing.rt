@@ -1,0 +1,62 @@
+// The main file is replaced: a whole new text is written beside it, synced, and put in its place.
+ghost use Rattle.std.specs.Prelude.{◌≡◌, ◌⊎◌, [], Some, IsSome, OnOk};
+ghost use Rattle.base_core.specs.Causes.{HasCause};
+ghost use Rattle.base_core.specs.CrashImages.{IsDurable, LeavesOnly, StaysAs};
+ghost use Rattle.base_core.specs.DiskCalls.{fresh_bytes};
+ghost use Rattle.flat_db.specs.FlatText.{canonical_text};
+ghost use Rattle.flat_db.specs.Kept.{map_among};
+ghost use Rattle.flat_db.specs.Replacing.{Replaces, MayReplace};
+
+use crate::pairs::Pairs;
+use crate::writing::{Piece, write_pairs};
+use base_core::{Disk, Failed};
+
+// Writes the new file: the canonical text of a map.
+fn write_new<D: Disk>(
+    disk: &mut D,
+    bytes: &[u8],
+    pairs: &Pairs,
+    piece: &mut Piece,
+) -> Result<(), Failed>
+    requires { piece.old ≡ [] }
+    ensures written { OnOk result (IsSome (D.state disk.old).reads → fresh_bytes (D.state disk.new).fresh ≡ Some (canonical_text (map_among bytes.now pairs.now))) }
+    ensures stays { StaysAs (D.state disk.old) (D.state disk.new) }
+    ensures cause { HasCause (D.state disk.old).faults (D.state disk.new).faults result }
+    ensures rest { D.disk_rest disk.old disk.new }
+{
+    disk.new_start()?;
+    write_pairs(disk, bytes, &pairs.entries, piece)?;
+    piece.flush(disk)
+}
+
+// Puts the text of a map in the place of the main file.
+pub(crate) fn replace<D: Disk>(
+    disk: &mut D,
+    bytes: &[u8],
+    pairs: &Pairs,
+    piece: &mut Piece,
+) -> Result<(), Failed>
+    requires { piece.old ≡ [] }
+    ensures replaces { Replaces (canonical_text (map_among bytes.now pairs.now)) (D.state disk.old) (D.state disk.new) result }
+    ensures any_moment { MayReplace (canonical_text (map_among bytes.now pairs.now)) (D.state disk.old) (D.state disk.new) }
+    ensures cause { HasCause (D.state disk.old).faults (D.state disk.new).faults result }
+    ensures rest { D.disk_rest disk.old disk.new }
+{
+    write_new(disk, bytes, pairs, piece)?;
+    disk.new_sync()?;
+    disk.publish()
+}
+
+/// Publishes an empty file: the text of the map without a pair. It takes no memory.
+///
+/// Wherever it stops, the file is one that could be left before, or empty, and after Ok only empty.
+pub fn create<D: Disk>(disk: &mut D) -> Result<(), Failed>
+    ensures replaces { Replaces [] (D.state disk.old) (D.state disk.new) result }
+    ensures any_moment { MayReplace [] (D.state disk.old) (D.state disk.new) }
+    ensures cause { HasCause (D.state disk.old).faults (D.state disk.new).faults result }
+    ensures rest { D.disk_rest disk.old disk.new }
+{
+    disk.new_start()?;
+    disk.new_sync()?;
+    disk.publish()
+}

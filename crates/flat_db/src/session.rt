@@ -1,0 +1,234 @@
+// A session over a flat file, whose text is rewritten whole by each transaction that changed something.
+ghost use Rattle.std.specs.Prelude.{◌≡◌, [], false, IfOk};
+ghost use Rattle.flat_db.specs.Kept.{SameEntries};
+ghost use Rattle.flat_db.specs.Sessions.{at_rest, changed, flat_state};
+
+use crate::flat_map::FlatMap;
+use crate::pairs::Pairs;
+use crate::replacing::replace;
+use crate::writing::Piece;
+use base_core::{Disk, FLAT_LIMIT, NoMemory, Pair};
+use db_core::{Db, DbFault, pair_fault};
+use std::alloc::Global;
+use std::marker::Model;
+use std::mem;
+
+/// What a transaction holds from its beginning, so that neither `commit` nor `abort` takes memory.
+#[derive(Drop)]
+pub(crate) struct Transaction {
+    /// The committed pairs, to which `abort` goes back.
+    committed: Pairs,
+    /// Where the session's bytes ended.
+    end: usize,
+    /// What `commit` writes with.
+    piece: Piece,
+    has_changed: bool,
+}
+
+impl Transaction {
+    fn new(alloc: Global, seen: &Pairs, end: usize) -> Result<Transaction, NoMemory>
+        ensures { IfOk result (λ t. SameEntries seen.now t.committed × (t.end ≡ end) × (t.piece ≡ []) × (t.has_changed ≡ false)) }
+    {
+        Ok(Transaction {
+            committed: seen.copy(alloc)?,
+            end,
+            piece: Piece::new(alloc)?,
+            has_changed: false,
+        })
+    }
+}
+
+/// Where a session stands.
+#[derive(Drop)]
+pub(crate) enum Stage {
+    /// No transaction stands.
+    Resting,
+    Open(Transaction),
+    /// An earlier call met a fault of the disk.
+    Broken,
+}
+
+impl Stage {
+    // The transaction that stands changed something.
+    fn note_change(&mut self)
+        ensures { self.new ≡ changed self.old }
+    {
+        if let Stage::Open(transaction) = self {
+            transaction.has_changed = true;
+        }
+    }
+}
+
+/// An open flat file. A contract sees its maps, and whether a transaction stands.
+///
+/// It keeps the text's bytes with the escapes taken out. Each map is 16 bytes for each pair, which tell where its
+/// key and its value stand there; a second one is kept only while a transaction stands.
+#[derive(Drop)]
+pub struct FlatDb {
+    alloc: Global,
+    bytes: Vec<u8>,
+    seen: Pairs,
+    stage: Stage,
+}
+
+impl Model for FlatDb {
+    ghost use Rattle.flat_db.specs.Sessions.{FlatSession, IsSession, session_of};
+
+    ghost Value = { FlatSession };
+
+    ghost view = { λ s. session_of s.bytes.items s.seen s.stage };
+
+    ghost invariant = { λ s. IsSession s.bytes.items s.seen s.stage };
+}
+
+impl FlatDb {
+    // A session over the map of a text.
+    pub(crate) fn over(alloc: Global, map: FlatMap) -> FlatDb
+        ensures { result ≡ at_rest map }
+    {
+        FlatDb {
+            alloc,
+            bytes: map.bytes,
+            seen: map.pairs,
+            stage: Stage::Resting,
+        }
+    }
+
+    fn is_broken(&self) -> bool
+        ensures { result ≡ (flat_state self.now).is_broken }
+    {
+        matches!(self.stage, Stage::Broken)
+    }
+}
+
+impl<D: Disk> Db<D> for FlatDb {
+    ghost use Rattle.flat_db.specs.Sessions.{flat_kind, flat_state, FlatTied, outside_same, broken_rests};
+
+    ghost kind = { flat_kind };
+
+    ghost state = { flat_state };
+
+    ghost tie = { λ s d. FlatTied s (D.state d) };
+
+    fn in_transaction(&self) -> bool {
+        matches!(self.stage, Stage::Open(_))
+    }
+
+    fn broken(&self) -> bool {
+        self.is_broken()
+    }
+
+    fn count(&self) -> u64 {
+        self.seen.entries.len() as u64
+    }
+
+    fn fetch(&self, key: &[u8]) -> Option<&[u8]> {
+        self.seen.value_of(&self.bytes, key)
+    }
+
+    fn at_least(&self, key: &[u8]) -> Option<Pair<'_>> {
+        match self.seen.place_of(&self.bytes, key) {
+            Ok(place) | Err(place) => self.seen.pair_at(&self.bytes, place),
+        }
+    }
+
+    fn after(&self, key: &[u8]) -> Option<Pair<'_>> {
+        match self.seen.place_of(&self.bytes, key) {
+            Ok(place) => self.seen.pair_at(&self.bytes, place + 1),
+            Err(place) => self.seen.pair_at(&self.bytes, place),
+        }
+    }
+
+    fn begin(&mut self) -> Result<(), DbFault> {
+        if self.is_broken() {
+            return Err(DbFault::Broken);
+        }
+        match Transaction::new(self.alloc, &self.seen, self.bytes.len()) {
+            Ok(transaction) => {
+                self.stage = Stage::Open(transaction);
+                Ok(())
+            }
+            Err(_) => Err(DbFault::NoMemory),
+        }
+    }
+
+    fn store(
+        &mut self,
+        _disk: &mut D,
+        _word: u32,
+        key: &[u8],
+        value: &[u8],
+    ) -> Result<(), DbFault> {
+        if self.is_broken() {
+            return Err(DbFault::Broken);
+        }
+        if let Some(fault) = pair_fault(key, value) {
+            return Err(fault);
+        }
+        let size = self.seen.size_with(&self.bytes, key, value);
+        if size > FLAT_LIMIT {
+            return Err(DbFault::Full { size });
+        }
+        let Ok(()) = self.seen.put(&mut self.bytes, key, value, size) else {
+            return Err(DbFault::NoMemory);
+        };
+        self.stage.note_change();
+        Ok(())
+    }
+
+    fn delete(&mut self, _disk: &mut D, key: &[u8]) -> Result<bool, DbFault> {
+        if self.is_broken() {
+            return Err(DbFault::Broken);
+        }
+        let Ok(place) = self.seen.place_of(&self.bytes, key) else {
+            return Ok(false);
+        };
+        let size = self.seen.size_without(&self.bytes, place);
+        if size > FLAT_LIMIT {
+            return Err(DbFault::Full { size });
+        }
+        let _ = self.seen.entries.remove(place);
+        self.seen.size = size;
+        self.stage.note_change();
+        Ok(true)
+    }
+
+    fn commit(&mut self, disk: &mut D) -> Result<(), DbFault> {
+        if self.is_broken() {
+            return Err(DbFault::Broken);
+        }
+        let Stage::Open(mut transaction) = mem::replace(&mut self.stage, Stage::Resting) else {
+            return Ok(());
+        };
+        if !transaction.has_changed {
+            return Ok(());
+        }
+        match replace(disk, &self.bytes, &self.seen, &mut transaction.piece) {
+            Ok(()) => Ok(()),
+            Err(_) => {
+                self.stage = Stage::Broken;
+                Err(DbFault::DiskFault)
+            }
+        }
+    }
+
+    fn abort(&mut self, _disk: &mut D) -> Result<(), DbFault> {
+        if self.is_broken() {
+            return Err(DbFault::Broken);
+        }
+        let Stage::Open(transaction) = mem::replace(&mut self.stage, Stage::Resting) else {
+            return Ok(());
+        };
+        self.bytes.truncate(transaction.end);
+        self.seen = transaction.committed;
+        Ok(())
+    }
+
+    ghost tie_rests = { λ b old new reads leaves tie. record { leaves = λ sound c left. tie.leaves sound c (leaves.no_more c left) } };
+
+    ghost tie_opens = { λ b d sound tie c left. tie.leaves sound c left };
+
+    ghost outside = { λ b sound closed. outside_same b sound closed };
+
+    ghost broken_outside = { λ b broken. broken_rests b broken };
+}
