@@ -6,33 +6,18 @@ use Rattle.base_core.specs.Transactions.{Transaction, Store, after_first}
 use Rattle.base_core.specs.declared.action.Backend.{Backend}
 use Rattle.base_core.specs.declared.action.Backend.TheVariants.{Flat, Twoskip}
 use Rattle.base_core.specs.declared.action.Action.TheVariants.{Set}
-use Rattle.base_core.specs.declared.limits.TheConstants.{FLAT_LIMIT, SKIP_LIMIT}
-use Rattle.flat_db.specs.FlatText.{FlatTextOf}
+use Rattle.flat_db.specs.Opening.{flat_opens}
 use Rattle.cyr_top.specs.declared.jobs.Job.{Job}
 use Rattle.cyr_top.specs.declared.jobs.Job.TheVariants.{Dbtool}
 
--- The image opens to this map. An absent file opens to none, and no twoskip file is read yet.
-abbrev pub Opens : Backend → Image → Map → Type 0
-Opens Flat (Some text) m = FlatTextOf text m
-Opens backend image m = ⊥
-
-abbrev pub file_limit : Backend → ℕ
-file_limit Flat = FLAT_LIMIT
-file_limit Twoskip = SKIP_LIMIT
-
--- the image is no longer than its backend's limit
-abbrev pub IsWithin : Backend → Image → Type 0
-IsWithin backend None = Unit {0}
-IsWithin backend (Some bytes) = length bytes ≤ file_limit backend
-
--- the image opens to this map, and a later opening does not find it too big
-pub record OpensWithin (backend : Backend) (image : Image) (m : Map) : Type 0 where
-  pub opens : Opens backend image m
-  pub within : IsWithin backend image
+-- The image opens to this map, and a later opening does not find it too big. An absent file opens to none, and no twoskip file is read yet.
+abbrev pub opens : Backend → Image → Map → Type 0
+opens Flat image m = flat_opens image m
+opens Twoskip image m = ⊥
 
 -- each image that a crash now may leave opens to this map
 pub record EachOpens (backend : Backend) (s : DiskState) (m : Map) : Type 0 where
-  pub each : (c : Image) → s.leaves c → OpensWithin backend c m
+  pub each : (c : Image) → s.leaves c → opens backend c m
 
 abbrev pub backend_of : Job → Backend
 backend_of (Dbtool make file backend action) = backend
@@ -51,4 +36,4 @@ pub record KeepsPrefix (job : Job) (m : Map) (start_mark : ℕ) (c : Image) (n :
   pub count : ℕ
   pub within : count ≤ length (transactions_of job)
   pub told : acknowledged job (n - start_mark) ≤ count
-  pub opens : OpensWithin (backend_of job) c (after_first count m (transactions_of job))
+  pub holds : opens (backend_of job) c (after_first count m (transactions_of job))

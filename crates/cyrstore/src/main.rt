@@ -4,9 +4,10 @@
 
 ghost use Rattle.std.specs.Prelude.{◌≡◌, [], Some, None, IfOk, map, string_bytes};
 ghost use Rattle.std.specs.Process.{exit_status};
-ghost use Rattle.base_core.specs.CrashImages.{IsDurable};
+ghost use Rattle.base_core.specs.CrashImages.{Image};
 ghost use Rattle.base_core.specs.declared.status.TheConstants.{STATUS_DONE, STATUS_USAGE};
 ghost use Rattle.cyr_top.specs.JobOf.{job_of, main_path};
+ghost use Rattle.cyr_top.specs.StatedResult.{LeftByJob};
 ghost use Rattle.cyr_top.specs.declared.jobs.Job.{Job};
 
 use base_core::{Host, NoMemory, STATUS_NO_MEMORY, Text};
@@ -56,7 +57,7 @@ fn refused(rt: &impl Eprint, why: &str, status: u8) -> ExitCode
 // Runs, and ends with the run's status.
 fn ended<H: Host>(alloc: Global, words: &[String], host: &mut H) -> ExitCode
     ensures usage { job_of (map string_bytes words.now) ≡ None → exit_status result ≡ STATUS_USAGE }
-    ensures done { exit_status result ≡ STATUS_DONE → IsDurable (H.state host.new) }
+    ensures done { exit_status result ≡ STATUS_DONE → (c : Image) → (H.state host.new).leaves c → LeftByJob (job_of (map string_bytes words.now)) (H.state host.old).reads c }
     ensures rest { H.host_rest host.old host.new }
 {
     ExitCode::from(run(alloc, words, host).status)

@@ -92,6 +92,11 @@ on_end kind s t Q R a b c ab bc implies first second = ⊎_elim
     (λ (more : (t.is_broken ≡ false) × OnDisk kind t R b c). on_then kind s t Q R a b c ab bc more.0 (implies more.0) first more.1)
     second
 
+-- what the changes of a transaction leave
+pub begun_disk : (kind : DbKind) (old first : DbState) (a b : DiskState) → first ≡ begun old → first.is_broken ≡ false → OnDisk kind first (λ i. kind.opens i first.committed) a b → OnDisk kind old (λ i. kind.opens i old.committed) a b
+begun_disk kind old first a b start sound on =
+    on_weaker kind old first (λ i. kind.opens i old.committed) (λ i. kind.opens i first.committed) a b (λ _. sound) (λ i p. subst (λ (m : Map). kind.opens i m) (ap (λ (s : DbState). s.committed) start) p) on
+
 -- a whole transaction
 pub whole_disk : (kind : DbKind) (old first last : DbState) (changes : List Change) (a b c : DiskState) → first ≡ begun old → first.is_broken ≡ false → last ≡ changes_after kind first changes → InTransaction first last
     → GoesOn a b → GoesOn b c → OnDisk kind first (λ i. kind.opens i first.committed) a b → OnDisk kind last (λ i. kind.opens i last.committed ⊎ kind.opens i last.seen) b c
@@ -107,20 +112,25 @@ whole_disk kind old first last changes a b c start sound made over ab bc before 
     (on_weaker kind old first Q (λ i. kind.opens i first.committed) a b (λ _. sound) (λ i p. inl (subst (λ (m : Map). kind.opens i m) from p)) before)
     after
 
-pub ended_disk : (kind : DbKind) (old first mid : DbState) (changes : List Change) (fault : DbFault) (a b c : DiskState) → first ≡ begun old → first.is_broken ≡ false → Left fault first mid
+-- and one that is given up
+pub given_up_disk : (kind : DbKind) (old first mid : DbState) (fault : DbFault) (a b c : DiskState) → first ≡ begun old → first.is_broken ≡ false → Left fault first mid
     → GoesOn a b → GoesOn b c → OnDisk kind first (λ i. kind.opens i first.committed) a b → ((mid.is_broken ≡ true) × (c ≡ b)) ⊎ ((mid.is_broken ≡ false) × OnDisk kind mid (λ i. kind.opens i mid.committed) b c)
-    → OnDisk kind old (λ i. kind.opens i old.committed ⊎ kind.opens i (map_after old.seen changes)) a c
-ended_disk kind old first mid changes fault a b c start sound left ab bc before after =
+    → OnDisk kind old (λ i. kind.opens i old.committed) a c
+given_up_disk kind old first mid fault a b c start sound left ab bc before after =
     let from : first.committed ≡ old.committed = ap (λ (s : DbState). s.committed) start in
-    let Q : Image → Type 0 = λ i. kind.opens i old.committed ⊎ kind.opens i (map_after old.seen changes) in
+    let Q : Image → Type 0 = λ i. kind.opens i old.committed in
     on_end kind old mid Q (λ i. kind.opens i mid.committed) a b c ab bc
-    (λ whole i p. inl (subst (λ (m : Map). kind.opens i m) (same whole left ∙ from) p))
-    (on_weaker kind old first Q (λ i. kind.opens i first.committed) a b (λ _. sound) (λ i p. inl (subst (λ (m : Map). kind.opens i m) from p)) before)
+    (λ whole i p. subst (λ (m : Map). kind.opens i m) (same whole left ∙ from) p)
+    (begun_disk kind old first a b start sound before)
     after
   where
     same : mid.is_broken ≡ false → Left fault first mid → mid.committed ≡ first.committed
     same whole (inl p) = absurd (cc (p.1, whole))
     same whole (inr p) = ap (λ (s : DbState). s.committed) p.1.base
+
+-- each image opens to the committed map, or to another one
+pub on_either : (kind : DbKind) (s : DbState) (m n : Map) (a b : DiskState) → OnDisk kind s (λ i. kind.opens i m) a b → OnDisk kind s (λ i. kind.opens i m ⊎ kind.opens i n) a b
+on_either kind s m n a b on = on_weaker kind s s (λ i. kind.opens i m ⊎ kind.opens i n) (λ i. kind.opens i m) a b (λ sound. sound) (λ i p. inl p) on
 
 -- how it ends after a refusal
 after_same : (fault : DbFault) (old new : DbState) → (IsDiskFault fault → ⊥) → new ≡ old → After fault old new

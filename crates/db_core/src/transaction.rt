@@ -67,7 +67,7 @@ fn give_up<D: Disk, B: Db<D>>(db: &mut B, disk: &mut D, fault: DbFault) -> DbFau
 ///
 /// A refusal of `begin` is answered at once. After a later one the transaction is given up and that refusal is
 /// answered, or `DiskFault` where giving it up meets one. Wherever a crash comes, the file opens to the map
-/// before the transaction or to the map after all of it.
+/// before the transaction or to the map after all of it, and to the latter only where it is answered Ok or `DiskFault`.
 pub fn run_changes<D: Disk, B: Db<D>>(
     db: &mut B,
     disk: &mut D,
@@ -77,6 +77,7 @@ pub fn run_changes<D: Disk, B: Db<D>>(
     requires tied { B.tie db.old disk.old }
     ensures answer { AnswersWhole (run_refusal B.kind (B.state db.old) changes.now) (B.state db.old) (B.state db.new) (run_after B.kind (B.state db.old) changes.now) result }
     ensures disk { OnDisk B.kind (B.state db.old) (λ c. B.kind.opens c (B.state db.old).committed ⊎ B.kind.opens c (map_after (B.state db.old).seen changes.now)) (D.state disk.old) (D.state disk.new) }
+    ensures given_up { IfErr result (λ fault. IsDiskFault fault ⊎ OnDisk B.kind (B.state db.old) (λ c. B.kind.opens c (B.state db.old).committed) (D.state disk.old) (D.state disk.new)) }
     ensures cause { HasDbCause (D.state disk.old).faults (D.state disk.new).faults result }
     ensures tied { B.tie db.new disk.new }
     ensures rest { D.disk_rest disk.old disk.new }

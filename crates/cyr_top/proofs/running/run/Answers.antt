@@ -1,7 +1,6 @@
 use Rattle.std.proofs.Common.{Option, map, string_bytes, sym, subst}
 use Rattle.base_core.specs.CrashImages.{Image}
-use Rattle.base_core.proofs.Moments.{leaves_still, stays_still}
-use Rattle.base_core.specs.declared.note.Note.{Note}
+use Rattle.base_core.proofs.Moments.{leaves_still}
 use Rattle.cyr_top.specs.Opened.{backend_of}
 use Rattle.cyr_top.specs.StatedResult.{IsStated}
 use Rattle.cyr_top.proofs.CauseLemmas.{stated_exactly}
@@ -18,12 +17,12 @@ returns-clause-crash g c job m asked opens =
 
 pub returns-clause-committed : goal.returns-clause-committed
 returns-clause-committed g c job m asked opens done =
-    opens_still _ _ (backend_of job) _ c.warn.ensures.disk
-    (done_opens _ _ (map string_bytes c.args.words.now) job m (g.met.H.Disk.is_moment _) (g.met.H.Disk.is_moment _) (g.met.H.Disk.rest_goes_on _ _ c.perform-note.ensures.rest) asked opens (c.perform-note.ensures.durable done)
-    (λ file key value same main is. subst (λ (note : Note). IsStated key value main note (g.H.Disk.state c.perform-note.new.host).reads) done (c.perform-note.ensures.stated file key value same main is)))
+    opens_still _ _ (backend_of job) _ c.warn.ensures.disk (done_opens _ _ (map string_bytes c.args.words.now) job m (g.met.H.Disk.is_moment _) asked opens (c.perform-note.ensures.done done))
 
 pub returns-clause-uncommitted : goal.returns-clause-uncommitted
-returns-clause-uncommitted g c backend m opens refused = refused_opens _ _ backend m (stays_still _ _ _ c.warn.ensures.disk (c.perform-note.ensures.refused refused).0) opens
+returns-clause-uncommitted g c backend m opens refused =
+    opens_still _ _ backend _ c.warn.ensures.disk
+    (refused_opens _ _ backend m (g.met.H.Disk.is_moment _) (g.met.H.Disk.is_moment _) (g.met.H.Disk.rest_goes_on _ _ c.perform-note.ensures.rest).later (c.perform-note.ensures.refused refused) opens)
 
 pub returns-clause-exactly : goal.returns-clause-exactly
 returns-clause-exactly g c file key value asked main is wanted cause =
