@@ -168,20 +168,20 @@ fn status_where_fails(
     Ok(status)
 }
 
-// Each call of the disk fails in turn: the length, one read, the start of the new file, its one piece, its sync and
-// its publishing. There is no seventh call.
+// Each call of the disk fails in turn: the length, the sync, one read, the start of the new file, its one piece, its
+// sync and its publishing. There is no eighth call.
 #[test]
 fn each_failing_call_answers_host(rt: HostRuntime) -> Result<(), Fail> {
     let alloc = rt.alloc();
     let words = words_of(alloc, &["cyr_dbtool", "f", "flat", "set", "b", "2"])?;
-    for call in 1..7u64 {
+    for call in 1..8u64 {
         assert_eq!(rt;
             status_where_fails(&rt, alloc, &words, call)?,
             74,
             "at call {call}"
         );
     }
-    assert_eq!(rt; status_where_fails(&rt, alloc, &words, 7)?, 0);
+    assert_eq!(rt; status_where_fails(&rt, alloc, &words, 8)?, 0);
     Ok(())
 }
 
