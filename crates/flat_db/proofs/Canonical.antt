@@ -12,7 +12,7 @@ use Rattle.base_core.specs.Escapes.{escaped}
 use Rattle.base_core.specs.OrderedMap.{Map, IsBelow, IsOrderedMap, BeginsAbove, key_order, put, without}
 use Rattle.base_core.proofs.EscapeLemmas.{spells_escaped}
 use Rattle.base_core.proofs.OrderedMaps.{EndsBelow, below_then, put_behind, put_ordered, nothing_below}
-use Rattle.flat_db.specs.FlatText.{pair_line, canonical_text, HasLine, SaysPair, SaysPairs, FlatTextOf}
+use Rattle.flat_db.specs.FlatText.{pair_line, canonical_text, HasLine, SaysPair, SaysPairs, put_all, FlatTextOf}
 use Rattle.flat_db.specs.Laws.{TextIsOrdered, CanonicalReadsBack, PutReadsBack}
 use Rattle.flat_db.proofs.FieldLemmas.{free_then, free_one, escaped_free}
 
@@ -82,6 +82,9 @@ puts_in_order before (p ∷ m) ends ordered =
     ∙ puts_in_order (before ++ (p ∷ [])) m (λ q n is. ends_push before p q.0 here (subst (λ (l : Map). BeginsAbove p.0 l) is ordered.0)) ordered.1
     ∙ append_assoc before (p ∷ []) m
 
+pub put_all_ordered : (m : Map) → IsOrderedMap m → m ≡ put_all m
+put_all_ordered m ordered = sym (puts_in_order [] m (λ p n is. tt) ordered)
+
 -- ---- the text
 
 -- the line of a pair, and what follows it
@@ -114,7 +117,7 @@ canonical_says [] none = refl
 canonical_says (p ∷ m) none = (escaped p.0 ++ (9 ∷ escaped p.1), canonical_text m, has_line p.0 p.1 (canonical_text m), says_line p none.0, canonical_says m none.1)
 
 reads_back : (m : Map) → IsOrderedMap m → NoneEmpty m → FlatTextOf (canonical_text m) m
-reads_back m ordered none = record { pairs = m; lines = canonical_says m none; later_wins = sym (puts_in_order [] m (λ p n is. tt) ordered) }
+reads_back m ordered none = record { pairs = m; lines = canonical_says m none; later_wins = put_all_ordered m ordered }
 
 of_ordered : (text : List ℕ) (m : Map) → FlatTextOf text m → IsOrderedMap m × NoneEmpty m
 of_ordered text m of = (

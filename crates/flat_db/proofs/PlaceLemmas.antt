@@ -16,7 +16,7 @@ use Rattle.db_core.specs.Sessions.{first_from, first_above}
 use Rattle.flat_db.specs.Places.{IsPlaceOf, HasKeyAt, LacksKeyAt}
 use Rattle.flat_db.specs.declared.entries.Entry.{Entry}
 
-is_below : (o : Ordering) → is_lt o ≡ true → o ≡ Less
+pub is_below : (o : Ordering) → is_lt o ≡ true → o ≡ Less
 is_below Less is = refl
 is_below Equal is = absurd (cc is)
 is_below Greater is = absurd (cc is)

@@ -1,7 +1,8 @@
 // A text is read into a map.
-ghost use Rattle.std.specs.Prelude.{◌≡◌, ◌<◌, ◌≤◌, ◌+◌, ◌*◌, ◌^◌, [], ℕ, List, OnOk, IfOk, IfErr, length, take};
+ghost use Rattle.std.specs.Prelude.{◌≡◌, ◌<◌, ◌≤◌, ◌+◌, ◌*◌, ◌^◌, [], true, ℕ, List, OnOk, IfOk, IfErr, length, take};
 ghost use Rattle.std.specs.List.{All};
 ghost use Rattle.base_core.specs.Escapes.{escaped};
+ghost use Rattle.base_core.specs.OrderedMap.{IsOrderedMap};
 ghost use Rattle.flat_db.specs.FlatText.{FlatTextOf, SaysPairs, put_all, canonical_text, pair_line};
 ghost use Rattle.flat_db.specs.Entries.{EndsBy, part_of, pairs_of};
 ghost use Rattle.flat_db.specs.Reading.{IsFlatFault};
@@ -34,12 +35,22 @@ pub(crate) fn read_lines(text: &mut [u8], entries: &mut Vec<Entry>) -> Result<()
     Ok(())
 }
 
+// Whether the keys rise already, as they do in a text that the tools wrote.
+fn keys_rise(bytes: &[u8], entries: &[Entry]) -> bool
+    ensures { result ≡ true → IsOrderedMap (pairs_of bytes.now entries.now) }
+{
+    entries.is_sorted_by(|a, b| compare_keys(part(bytes, a.key), part(bytes, b.key)).is_lt())
+}
+
 // Puts entries in the order of their keys. Of some with one key the last is kept: they are turned round and
 // sorted, which keeps the order of equal keys, and then the first of each run stays.
 pub(crate) fn in_order(bytes: &[u8], entries: &mut Vec<Entry>) -> Result<(), AllocError>
     ensures pairs { OnOk result (pairs_of bytes.now entries.new.items ≡ put_all (pairs_of bytes.now entries.old.items)) }
     ensures ends { OnOk result ((end : ℕ) → All (EndsBy end) entries.old.items → All (EndsBy end) entries.new.items) }
 {
+    if keys_rise(bytes, entries) {
+        return Ok(());
+    }
     entries.reverse();
     entries.sort_by(|a, b| compare_keys(part(bytes, a.key), part(bytes, b.key)))?;
     entries.dedup_by(|a, b| compare_keys(part(bytes, a.key), part(bytes, b.key)).is_eq());

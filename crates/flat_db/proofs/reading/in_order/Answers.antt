@@ -7,6 +7,8 @@ use Rattle.std.specs.List.{All, dedup}
 use Rattle.std.specs.List.Sorted.{IsStableBy}
 use Rattle.flat_db.specs.Entries.{part_of, pairs_of, EndsBy}
 use Rattle.flat_db.specs.declared.entries.Entry.{Entry}
+use Rattle.base_core.specs.OrderedMap.{IsOrderedMap}
+use Rattle.flat_db.proofs.Canonical.{put_all_ordered}
 use Rattle.flat_db.proofs.LaterWins.{lt, same, later_wins}
 use Rattle.flat_db.proofs.reading.in_order.Goals as goal
 
@@ -26,3 +28,7 @@ returns-clause-ends c end all =
     let kept : c.dedup_by.new.self.items ≡ dedup (same bytes) c.sort_by.new.self.items = dedup_same _ (same bytes) _ (λ x y b f' x' y' k. search rules) _ _ c.dedup_by.ensures.filtered in
     subst (λ (l : List Entry). All (EndsBy end) l) (sym kept)
     (All-dedup (same bytes) (EndsBy end) c.sort_by.new.self.items (All-permutation (EndsBy end) _ _ c.sort_by.ensures.permutation (All-permutation (EndsBy end) _ _ c.reverse.ensures.permutation all)))
+
+pub returns-then-keys_rise-clause-pairs : goal.returns-then-keys_rise-clause-pairs
+returns-then-keys_rise-clause-pairs c =
+    put_all_ordered (pairs_of c.args.bytes.now c.args.entries.now.items) (subst (λ (l : List Entry). IsOrderedMap (pairs_of c.args.bytes.now l)) c.deref.ensures.value (c.keys_rise.ensures c.if-keys_rise.true))
