@@ -89,7 +89,7 @@ fn million_lines_are_one_key(rt: HostRuntime) -> Result<(), Fail> {
 
 #[test]
 fn one_line_may_be_the_whole_text(rt: HostRuntime) -> Result<(), Fail> {
-    let text = lines_of(rt.alloc(), b"0123456789abcdef", FLAT_LIMIT / 16)?;
+    let text = vec![in rt.alloc(); b'a'; FLAT_LIMIT as usize]?;
     expect_flaw(&rt, read_flat(rt.alloc(), &text), 0, Flaw::NoTab);
     Ok(())
 }
