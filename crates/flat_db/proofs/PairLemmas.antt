@@ -68,14 +68,17 @@ put_kept bytes key value before after kept some ends is size fits = record {
 
 pub without_kept : (bytes key : List ℕ) (before after : Pairs) (place : ℕ) → IsKept bytes before → HasKeyAt key (map_among bytes before) place → after.entries.items ≡ remove before.entries.items place
     → after.size ≡ length (canonical_text (without (map_among bytes before) key)) → IsKept bytes after × (map_among bytes after ≡ without (map_among bytes before) key)
-without_kept bytes key before after place kept has removed size = (record {
-  ordered = subst IsOrderedMap (sym is) (without_ordered (map_among bytes before) key kept.ordered);
-  some = subst (All (λ p. p.0 ≢ [])) (sym is) (without_some (map_among bytes before) key kept.some);
-  ends = subst (All (EndsBy (length bytes))) (sym removed) (ends_remove (length bytes) before.entries.items place kept.ends);
-  counted = size ∙ ap (λ (m : Map). length (canonical_text m)) (sym is);
-  short = kept.short;
-  small = omega (arith, size, kept.small, kept.counted, size_without_own key (map_among bytes before) place has);
-}, is)
+without_kept bytes key before after place kept has removed size = (
+  record {
+    ordered = subst IsOrderedMap (sym is) (without_ordered (map_among bytes before) key kept.ordered);
+    some = subst (All (λ p. p.0 ≢ [])) (sym is) (without_some (map_among bytes before) key kept.some);
+    ends = subst (All (EndsBy (length bytes))) (sym removed) (ends_remove (length bytes) before.entries.items place kept.ends);
+    counted = size ∙ ap (λ (m : Map). length (canonical_text m)) (sym is);
+    short = kept.short;
+    small = omega (arith, size, kept.small, kept.counted, size_without_own key (map_among bytes before) place has);
+  },
+  is,
+)
   where
     is : map_among bytes after ≡ without (map_among bytes before) key
     is = ap (pairs_of bytes) removed ∙ remove_pairs bytes before.entries.items place ∙ sym (without_own key (map_among bytes before) place has)

@@ -175,7 +175,7 @@ first_above_own key m place has ordered =
         by : (k ≡ place) ⊎ (k < place) → is_lt (key_order key (get_or (take (place + 1) m) k d).0) ≡ false
         by (inl own) =
             ap (λ (p : List ℕ × List ℕ). is_lt (key_order key p.0))
-                (get_or-take (place + 1) m k d in_front ∙ ap (λ (i : ℕ). get_or m i d) (omega (arith, own)) ∙ sym (get_or-drop place m 0 d) ∙ ap (λ (l : Map). get_or l 0 d) has.here)
+            (get_or-take (place + 1) m k d in_front ∙ ap (λ (i : ℕ). get_or m i d) (omega (arith, own)) ∙ sym (get_or-drop place m 0 d) ∙ ap (λ (l : Map). get_or l 0 d) has.here)
             ∙ ap is_lt (key_itself key)
         by (inr lower) =
             ap (λ (p : List ℕ × List ℕ). is_lt (key_order key p.0)) (get_or-take (place + 1) m k d in_front ∙ sym (get_or-take place m k d lower))

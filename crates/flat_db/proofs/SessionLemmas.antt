@@ -221,14 +221,17 @@ module _ (bytes slice : List ℕ) (seen : Pairs) (stage result : Stage) (t : Tra
 
   -- the committed pairs, among the bytes of before
   pub back_kept : (cut : List ℕ) → cut ≡ take t.end bytes → IsKept cut t.committed × (map_among cut t.committed ≡ map_among bytes t.committed)
-  back_kept cut shorter = (record {
-    ordered = subst IsOrderedMap (sym map_same) stands_open.committed.ordered;
-    some = subst (All (λ p. p.0 ≢ [])) (sym map_same) stands_open.committed.some;
-    ends = subst (λ (n : ℕ). All (EndsBy n) t.committed.entries.items) (omega (arith, ap length shorter, length-take-le t.end bytes stands_open.before)) stands_open.ends;
-    counted = stands_open.committed.counted ∙ ap (λ (m : Map). length (canonical_text m)) (sym map_same);
-    short = omega (arith, ap length shorter, length-take-le t.end bytes stands_open.before, stands_open.before, stands_open.committed.short);
-    small = stands_open.committed.small;
-  }, map_same)
+  back_kept cut shorter = (
+    record {
+      ordered = subst IsOrderedMap (sym map_same) stands_open.committed.ordered;
+      some = subst (All (λ p. p.0 ≢ [])) (sym map_same) stands_open.committed.some;
+      ends = subst (λ (n : ℕ). All (EndsBy n) t.committed.entries.items) (omega (arith, ap length shorter, length-take-le t.end bytes stands_open.before)) stands_open.ends;
+      counted = stands_open.committed.counted ∙ ap (λ (m : Map). length (canonical_text m)) (sym map_same);
+      short = omega (arith, ap length shorter, length-take-le t.end bytes stands_open.before, stands_open.before, stands_open.committed.short);
+      small = stands_open.committed.small;
+    },
+    map_same,
+  )
     where
       map_same : map_among cut t.committed ≡ map_among bytes t.committed
       map_same = sym (pairs_below cut bytes t.end t.committed.entries.items (sym shorter ∙ sym (take_all t.end cut (omega (arith, ap length shorter, length-take-le t.end bytes stands_open.before)))) stands_open.ends)

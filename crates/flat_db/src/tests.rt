@@ -1,6 +1,7 @@
 // Texts and the maps that they say.
 use crate::{FlatFault, FlatMap, read_flat};
 use base_core::{FLAT_LIMIT, Flaw};
+use db_core::pair_fault;
 use std::alloc::Global;
 use std::process::Abort;
 use std::test::Fail;
@@ -27,27 +28,43 @@ fn later_lines_win(rt: HostRuntime) -> Result<(), Fail> {
     assert!(rt; map.fetch(&[0, 0xff]) == Some(b"z".as_slice()));
     assert!(rt; map.fetch(b"c") == None);
     assert!(rt; map.fetch(b"") == None);
-    assert_eq!(rt; map.text_size(), 7 + 4 + 6 + 10);
-    assert_eq!(rt; map.size_with(b"c", b"3"), 31);
-    assert_eq!(rt; map.size_with(b"b", b""), 20);
+    let FlatMap { bytes, pairs } = map;
+    assert_eq!(rt; pairs.size, 7 + 4 + 6 + 10);
+    assert_eq!(rt; pairs.size_with(&bytes, b"c", b"3"), 31);
+    assert_eq!(rt; pairs.size_with(&bytes, b"b", b""), 20);
     Ok(())
+}
+
+// The map with a pair put.
+fn with_pair(map: FlatMap, key: &[u8], value: &[u8]) -> Result<FlatMap, Fail> {
+    if pair_fault(key, value).is_some() {
+        return Err("the pair is refused".into());
+    }
+    let FlatMap {
+        mut bytes,
+        mut pairs,
+    } = map;
+    let size = pairs.size_with(&bytes, key, value);
+    if size > FLAT_LIMIT {
+        return Err("the text is too long".into());
+    }
+    match pairs.put(&mut bytes, key, value, size) {
+        Ok(()) => Ok(FlatMap { bytes, pairs }),
+        Err(_) => Err("memory ran out".into()),
+    }
 }
 
 #[test]
 fn pairs_are_put(rt: HostRuntime) -> Result<(), Fail> {
-    let mut map = read_flat(rt.alloc(), b"")?;
-    assert_eq!(rt; map.count(), 0);
-    for (key, value) in [("b", "1"), ("a", ""), ("b", "2\n")] {
-        let (key, value) = (key.as_bytes(), value.as_bytes());
-        if key.len() > 9 || value.len() > 9 || map.size_with(key, value) > FLAT_LIMIT {
-            return Err("the pair is too long for the test".into());
-        }
-        assert!(rt; map.put(key, value).is_ok());
-    }
+    let empty = read_flat(rt.alloc(), b"")?;
+    assert_eq!(rt; empty.count(), 0);
+    let one = with_pair(empty, b"b", b"1")?;
+    let two = with_pair(one, b"a", b"")?;
+    let map = with_pair(two, b"b", b"2\n")?;
     assert_eq!(rt; map.count(), 2);
     assert!(rt; map.fetch(b"a") == Some(b"".as_slice()));
     assert!(rt; map.fetch(b"b") == Some(b"2\n".as_slice()));
-    assert_eq!(rt; map.text_size(), 9);
+    assert_eq!(rt; map.pairs.size, 9);
     Ok(())
 }
 
@@ -66,13 +83,13 @@ fn million_lines_are_one_key(rt: HostRuntime) -> Result<(), Fail> {
     let map = read_flat(rt.alloc(), &text)?;
     assert_eq!(rt; map.count(), 1);
     assert!(rt; map.fetch(b"a") == Some(b"\t".as_slice()));
-    assert_eq!(rt; map.text_size(), 5);
+    assert_eq!(rt; map.pairs.size, 5);
     Ok(())
 }
 
 #[test]
 fn one_line_may_be_the_whole_text(rt: HostRuntime) -> Result<(), Fail> {
-    let text = lines_of(rt.alloc(), b"0123456789abcdef", FLAT_LIMIT / 16)?;
+    let text = vec![in rt.alloc(); b'a'; FLAT_LIMIT as usize]?;
     expect_flaw(&rt, read_flat(rt.alloc(), &text), 0, Flaw::NoTab);
     Ok(())
 }

@@ -33,14 +33,16 @@ put_among c =
     elim c.match-place_of.branch [
       | in-Ok w ↦
           let is : c.match-place_of.self.entries.items ≡ set entries w.in-Ok.place c.in_ok-entry.entry = ap (λ (p : Pairs). p.entries.items) w.self-is in
-          let has = subst (λ (l : List ℕ). HasKeyAt c.args.key.now (pairs_of l entries) w.in-Ok.place) c.deref.ensures.value w.in-Ok.ensures.own in
-          (subst (All (EndsBy (length new))) (sym is) (ends_set (length new) entries w.in-Ok.place c.in_ok-entry.entry c.in_ok-entry.ensures.ends ends),
-          ap (pairs_of new) is ∙ put_over_own new c.args.key.now c.args.value.now entries w.in-Ok.place c.in_ok-entry.entry c.in_ok-entry.ensures.pair w.in-Ok.ensures.there has)
+          let has = subst (λ (l : List ℕ). HasKeyAt c.args.key.now (pairs_of l entries) w.in-Ok.place) c.deref.ensures.value w.in-Ok.ensures.own in (
+            subst (All (EndsBy (length new))) (sym is) (ends_set (length new) entries w.in-Ok.place c.in_ok-entry.entry c.in_ok-entry.ensures.ends ends),
+            ap (pairs_of new) is ∙ put_over_own new c.args.key.now c.args.value.now entries w.in-Ok.place c.in_ok-entry.entry c.in_ok-entry.ensures.pair w.in-Ok.ensures.there has,
+          )
       | in-Err+in-Ok-insert w ↦
           let is : c.match-place_of.self.entries.items ≡ insert entries w.in-Err.place c.in_ok-entry.entry = ap (λ (p : Pairs). p.entries.items) w.self-is ∙ w.in-Ok-insert.ensures.items in
-          let lacks = subst (λ (l : List ℕ). LacksKeyAt c.args.key.now (pairs_of l entries) w.in-Err.place) c.deref.ensures.value w.in-Err.ensures.between in
-          (subst (All (EndsBy (length new))) (sym is) (ends_insert (length new) entries w.in-Err.place c.in_ok-entry.entry c.in_ok-entry.ensures.ends ends),
-          ap (pairs_of new) is ∙ put_in_between new c.args.key.now c.args.value.now entries w.in-Err.place c.in_ok-entry.entry c.in_ok-entry.ensures.pair lacks)
+          let lacks = subst (λ (l : List ℕ). LacksKeyAt c.args.key.now (pairs_of l entries) w.in-Err.place) c.deref.ensures.value w.in-Err.ensures.between in (
+            subst (All (EndsBy (length new))) (sym is) (ends_insert (length new) entries w.in-Err.place c.in_ok-entry.entry c.in_ok-entry.ensures.ends ends),
+            ap (pairs_of new) is ∙ put_in_between new c.args.key.now c.args.value.now entries w.in-Err.place c.in_ok-entry.entry c.in_ok-entry.ensures.pair lacks,
+          )
     ]
 
 -- the map of before, among the bytes of now
