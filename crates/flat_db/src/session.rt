@@ -1,7 +1,12 @@
 // A session over a flat file, whose text is rewritten whole by each transaction that changed something.
-ghost use Rattle.std.specs.Prelude.{◌≡◌, [], false, IfOk};
+ghost use Rattle.std.specs.Prelude.{◌≡◌, ◌⊎◌, [], true, false, Some, IsSome, IsErrOf, IfOk, IfErr, OnOk};
+ghost use Rattle.db_core.specs.Answers.{Answers, HasDbCause, IsDiskFault, OnDisk, broken_refusal};
+ghost use Rattle.db_core.specs.Sessions.{committed};
+ghost use Rattle.db_core.specs.declared.fault.DbFault.TheVariants.{NoMemory as MemoryRanOut};
+ghost use Rattle.flat_db.specs.FlatText.{canonical_text};
 ghost use Rattle.flat_db.specs.Kept.{SameEntries};
-ghost use Rattle.flat_db.specs.Sessions.{at_rest, changed, flat_state};
+ghost use Rattle.flat_db.specs.Opening.{flat_opens};
+ghost use Rattle.flat_db.specs.Sessions.{FlatTied, at_rest, changed, flat_kind, flat_state};
 
 use crate::flat_map::FlatMap;
 use crate::pairs::Pairs;
@@ -102,7 +107,7 @@ impl FlatDb {
 }
 
 impl<D: Disk> Db<D> for FlatDb {
-    ghost use Rattle.flat_db.specs.Sessions.{flat_kind, flat_state, FlatTied, outside_same, broken_rests};
+    ghost use Rattle.flat_db.specs.Sessions.{outside_same, broken_rests};
 
     ghost kind = { flat_kind };
 
@@ -193,7 +198,21 @@ impl<D: Disk> Db<D> for FlatDb {
         Ok(true)
     }
 
-    fn commit(&mut self, disk: &mut D) -> Result<(), DbFault> {
+    fn commit(&mut self, disk: &mut D) -> Result<(), DbFault>
+        requires within { (flat_state self.old).is_broken ≡ false → (flat_state self.old).in_transaction ≡ true }
+        requires tied { FlatTied self.old (D.state disk.old) }
+        ensures answer { Answers (broken_refusal (flat_state self.old)) (flat_state self.old) (flat_state self.new) (committed flat_kind (flat_state self.old)) result }
+        ensures has_memory { IsErrOf result MemoryRanOut → ⊥ }
+        ensures unharmed { IfErr result (λ fault. IsDiskFault fault ⊎ (disk.new ≡ disk.old)) }
+        ensures untouched { (flat_state self.old).has_changed ≡ false → OnOk result (disk.new ≡ disk.old) }
+        ensures disk { OnDisk flat_kind (flat_state self.old) (λ c. flat_opens c (flat_state self.old).committed ⊎ flat_opens c (flat_state self.old).seen) (D.state disk.old) (D.state disk.new) }
+        ensures cause { HasDbCause (D.state disk.old).faults (D.state disk.new).faults result }
+        ensures tied { FlatTied self.new (D.state disk.new) }
+        ensures rest { D.disk_rest disk.old disk.new }
+
+        // A transaction that changed something leaves the canonical text of the map seen.
+        ensures text { (flat_state self.old).has_changed ≡ true → OnOk result (IsSome (D.state disk.old).reads → (D.state disk.new).reads ≡ Some (Some (canonical_text (flat_state self.old).seen))) }
+    {
         if self.is_broken() {
             return Err(DbFault::Broken);
         }
