@@ -119,11 +119,7 @@ fn changes_of(alloc: Global, edits: &[Edit]) -> Result<Vec<Change>, Fail> {
 }
 
 // Makes a transaction where none stands.
-fn make<B: Db<MemDisk>>(
-    db: &mut B,
-    disk: &mut MemDisk,
-    changes: &[Change],
-) -> Result<(), DbFault>
+fn make<B: Db<MemDisk>>(db: &mut B, disk: &mut MemDisk, changes: &[Change]) -> Result<(), DbFault>
     requires { B.tie db.old disk.old }
     ensures { B.tie db.new disk.new }
 {
