@@ -1,6 +1,6 @@
 -- A session that keeps its maps in memory, by its parts.
 use Rattle.std.proofs.Common.{◌≡◌, ℕ, Bool, true, false, refl}
-use Rattle.std.specs.Prelude.{◌+◌, ◌&&◌, None, if◌then◌else◌}
+use Rattle.std.specs.Prelude.{◌+◌, ◌&&◌, if◌then◌else◌}
 use Rattle.base_core.specs.OrderedMap.{Map}
 use Rattle.db_core.specs.Sessions.{DbKind, DbState, aborted}
 

@@ -371,14 +371,14 @@ const OPENINGS: &[Opening] = &[
     (Some(b"a\t1\nb\t\xff\n"), &[], NO_ESCAPE, NO_ESCAPE),
 ];
 
-fn opened<B: Db<MemDisk>>(db: &B, _disk: &MemDisk) -> u64 {
+// How many pairs the map seen has.
+fn count_of<B: Db<MemDisk>>(db: &B, _disk: &MemDisk) -> u64 {
     if db.broken() { 999 } else { db.count() }
 }
 
-// How many pairs opening the file finds.
 fn open_count(alloc: Global, disk: &mut MemDisk) -> Result<u64, OpenFault> {
     match open_db(alloc, disk) {
-        Ok(db) => Ok(opened(&db, disk)),
+        Ok(db) => Ok(count_of(&db, disk)),
         Err(fault) => Err(fault),
     }
 }
@@ -388,9 +388,9 @@ fn assert_opening(rt: &impl Abort, alloc: Global, row: &Opening) -> Result<(), F
     let mut disk = disk_of(alloc, main, ROOM, fails)?;
     let mut other = disk_of(alloc, main, ROOM, fails)?;
     let counts = (open_count(alloc, &mut disk), check_db(alloc, &mut other));
-    let same = (disk.main() == main, other.main() == main);
+    let stays = (disk.main() == main, other.main() == main);
     assert_eq!(rt;
-        (counts, same),
+        (counts, stays),
         ((opened, checked), (true, true)),
         "of {main:?} with {fails:?}"
     );
@@ -402,6 +402,20 @@ fn files_are_opened_or_refused(rt: HostRuntime) -> Result<(), Fail> {
     for row in OPENINGS {
         assert_opening(&rt, rt.alloc(), row)?;
     }
+    Ok(())
+}
+
+// The file has a byte more than it may. Any call after its length fails.
+#[test]
+fn file_past_the_limit_is_refused(rt: HostRuntime) -> Result<(), Fail> {
+    let alloc = rt.alloc();
+    let text = vec![in alloc; b'v'; 67_108_865]?;
+    let mut disk = disk_of(alloc, Some(&text), 67_108_865, &[2, 4])?;
+    let opened = open_count(alloc, &mut disk);
+    assert_eq!(rt; opened, Err(OpenFault::TooBig { size: 67_108_865 }));
+    assert_eq!(rt; check_db(alloc, &mut disk), FAULT, "at the second call");
+    let checked = check_db(alloc, &mut disk);
+    assert_eq!(rt; checked, Err(OpenFault::TooBig { size: 67_108_865 }));
     Ok(())
 }
 
