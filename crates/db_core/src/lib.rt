@@ -12,6 +12,3 @@ pub use db::Db;
 pub use fault::{DbFault, OpenFault};
 pub use pair_limits::pair_fault;
 pub use transaction::run_changes;
-
-#[cfg(test)]
-mod tests;

@@ -1,16 +1,16 @@
 use Rattle.std.proofs.Common.{◌∙◌, ap, map, List, ℕ, refl, rules}
 use Rattle.base_core.specs.OrderedMap.{put}
-use Rattle.db_core.specs.MemorySessions.{counting_kind}
-use Rattle.db_core.proofs.Trees.{tree_put}
-use Rattle.db_core.proofs.MemoryLemmas.{stored_memory}
-use Rattle.db_core.proofs.tests.map_db.MapDbDb.store.Goals as goal
+use Rattle.session_tests.specs.MemorySessions.{counting_kind}
+use Rattle.session_tests.proofs.Trees.{tree_put}
+use Rattle.session_tests.proofs.MemoryLemmas.{stored_memory}
+use Rattle.session_tests.proofs.tests.map_db.MapDbDb.store.Goals as goal
 
 pub returns-in-Ok-clause-answer : goal.returns-in-Ok-clause-answer
 returns-in-Ok-clause-answer g c =
     let seen = map (λ e. (e.0.items, e.1.items)) c.args.self.now.map.entries in
     record {
       ok = search rules;
-      done = stored_memory (counting_kind 4) c.args.self.now.in_transaction seen _ _ _ c.args.self.now.has_changed (c.requires.within refl) c.args._word c.args.key.now c.args.value.now _ _
+      done = stored_memory (counting_kind 9) c.args.self.now.in_transaction seen _ _ _ c.args.self.now.has_changed (c.requires.within refl) c.args._word c.args.key.now c.args.value.now _ _
           (ap (map (λ e. (e.0.items, e.1.items))) c.in-Ok.ensures.entries
           ∙ tree_put c.args.self.now.map.entries c.in-Ok-Ok.key c.in-Ok-Ok.value
           ∙ ap (λ (k : List ℕ). put seen k c.in-Ok-Ok.value.items) (c.in-Ok-Ok.ensures.items_if_clones_equal (λ x y p. p))

@@ -1,15 +1,15 @@
 // A session whose maps are in memory alone.
 ghost use Rattle.std.specs.Prelude.{◌≤◌};
 
-use crate::{Db, DbFault, pair_fault};
 use base_core::{Disk, Pair, compare_keys};
+use db_core::{Db, DbFault, pair_fault};
 use std::alloc::Global;
 use std::collections::BTreeMap;
 use std::mem;
 
 type Tree = BTreeMap<Vec<u8>, Vec<u8>>;
 
-/// Its files stand for every map. A file has a byte for each change that was made, and at most four.
+/// Its files stand for every map. A file has a byte for each change that was made, and at most nine.
 #[derive(Drop)]
 pub struct MapDb {
     alloc: Global,
@@ -19,8 +19,8 @@ pub struct MapDb {
     has_changed: bool,
     changes: u64,
     saved_changes: u64,
-    ghost few: { changes ≤ 4 },
-    ghost saved_few: { saved_changes ≤ 4 },
+    ghost few: { changes ≤ 9 },
+    ghost saved_few: { saved_changes ≤ 9 },
 }
 
 impl MapDb {
@@ -39,9 +39,9 @@ impl MapDb {
 
 impl<D: Disk> Db<D> for MapDb {
     ghost use Rattle.std.specs.Prelude.{map};
-    ghost use Rattle.db_core.specs.MemorySessions.{counting_kind, memory_state, outside_same};
+    ghost use Rattle.session_tests.specs.MemorySessions.{counting_kind, memory_state, outside_same};
 
-    ghost kind = { counting_kind 4 };
+    ghost kind = { counting_kind 9 };
 
     ghost state = { λ s. memory_state s.in_transaction (map (λ e. (e.0.items, e.1.items)) s.map.entries) (map (λ e. (e.0.items, e.1.items)) s.saved.entries) s.changes s.saved_changes s.has_changed };
 
@@ -107,7 +107,7 @@ impl<D: Disk> Db<D> for MapDb {
         if let Some(fault) = pair_fault(key, value) {
             return Err(fault);
         }
-        if self.changes >= 4 {
+        if self.changes >= 9 {
             return Err(DbFault::Full {
                 size: self.changes + 1,
             });
@@ -129,7 +129,7 @@ impl<D: Disk> Db<D> for MapDb {
         if self.map.get(key).is_none() {
             return Ok(false);
         }
-        if self.changes >= 4 {
+        if self.changes >= 9 {
             return Err(DbFault::Full {
                 size: self.changes + 1,
             });

@@ -1,7 +1,7 @@
 use Rattle.std.proofs.Common.{map, refl}
-use Rattle.db_core.proofs.Trees.{tree_clone}
-use Rattle.db_core.proofs.MemoryLemmas.{begun_memory}
-use Rattle.db_core.proofs.tests.map_db.MapDbDb.begin.Goals as goal
+use Rattle.session_tests.proofs.Trees.{tree_clone}
+use Rattle.session_tests.proofs.MemoryLemmas.{begun_memory}
+use Rattle.session_tests.proofs.tests.map_db.MapDbDb.begin.Goals as goal
 
 pub returns-in-Ok-clause-answer : goal.returns-in-Ok-clause-answer
 returns-in-Ok-clause-answer g c = record {

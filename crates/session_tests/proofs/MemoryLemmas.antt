@@ -4,7 +4,7 @@ use Rattle.std.specs.Prelude.{◌&&◌, is_some, if◌then◌else◌}
 use Rattle.base_core.specs.OrderedMap.{Map, put, without, value_at}
 use Rattle.db_core.specs.Sessions.{DbKind, DbState, begun, stored, deleted}
 use Rattle.db_core.specs.declared.change.Change.TheVariants.{Put, Del}
-use Rattle.db_core.specs.MemorySessions.{counting_kind, memory_state}
+use Rattle.session_tests.specs.MemorySessions.{counting_kind, memory_state}
 use Rattle.db_core.specs.Answers.{size_refusal, delete_refusal}
 
 pub begun_memory : (b : Bool) (seen saved copy : Map) (load saved_load : ℕ) (changed : Bool) → b ≡ false → copy ≡ seen → memory_state true seen copy load load false ≡ begun (memory_state b seen saved load saved_load changed)

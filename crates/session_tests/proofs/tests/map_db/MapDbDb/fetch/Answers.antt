@@ -1,7 +1,7 @@
 use Rattle.std.proofs.Common.{◌∙◌, ap, Some, List, ℕ}
 use Rattle.std.specs.Option.{option_map}
-use Rattle.db_core.proofs.Trees.{tree_value}
-use Rattle.db_core.proofs.tests.map_db.MapDbDb.fetch.Goals as goal
+use Rattle.session_tests.proofs.Trees.{tree_value}
+use Rattle.session_tests.proofs.tests.map_db.MapDbDb.fetch.Goals as goal
 
 pub returns-in-Some : goal.returns-in-Some
 returns-in-Some g c = ap (λ (l : List ℕ). Some l) c.deref.ensures.value ∙ ap (option_map (λ v. v.items)) c.in-Some.ensures.value ∙ tree_value c.args.self.now.map.entries c.args.key.now

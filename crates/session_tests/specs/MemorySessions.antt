@@ -1,9 +1,7 @@
 -- A session that keeps its maps in memory, by its parts.
 use Rattle.std.proofs.Common.{◌≡◌, ℕ, Bool, true, false, refl}
-use Rattle.std.specs.Prelude.{◌+◌, ◌&&◌, None, if◌then◌else◌}
-use Rattle.base_core.specs.CrashImages.{DiskState, IsMoment}
+use Rattle.std.specs.Prelude.{◌+◌, ◌&&◌, if◌then◌else◌}
 use Rattle.base_core.specs.OrderedMap.{Map}
-use Rattle.base_core.specs.Untold.{counts_only, counts_moment}
 use Rattle.db_core.specs.Sessions.{DbKind, DbState, aborted}
 
 -- A kind whose files stand for every map, and have a byte for each change that was made.
@@ -33,10 +31,3 @@ memory_state b seen saved load saved_load changed = record {
 pub outside_same : (b : Bool) (seen saved : Map) (load saved_load : ℕ) (changed : Bool) → b ≡ false → aborted (memory_state b seen saved load saved_load changed) ≡ memory_state b seen saved load saved_load changed
 outside_same true seen saved load saved_load changed closed = absurd (cc closed)
 outside_same false seen saved load saved_load changed closed = refl
-
--- A disk that tells nothing but how often it failed.
-abbrev pub silent : ℕ → DiskState
-silent faults = counts_only faults 0 0
-
-pub silent_moment : (faults : ℕ) → IsMoment (silent faults)
-silent_moment faults = counts_moment faults 0 0
