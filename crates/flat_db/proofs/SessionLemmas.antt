@@ -1,6 +1,6 @@
 -- How the calls of a session follow one another.
 use Rattle.std.proofs.lemmas.List.{append-nil, length-take-le, take_all}
-use Rattle.std.proofs.Common.{◌≡◌, ◌≢◌, ◌⊎◌, inl, inr, ⊎_elim, ℕ, ◌+◌, ◌≤◌, Bool, true, false, List, [], ◌++◌, Option, Some, None, length, take, drop, refl, sym, ◌∙◌, ap, subst, arith, length-append}
+use Rattle.std.proofs.Common.{◌≡◌, ◌≢◌, ◌⊎◌, inl, inr, ⊎_elim, ℕ, ◌+◌, ◌≤◌, Bool, true, false, List, [], ◌++◌, Option, Some, None, length, take, refl, sym, ◌∙◌, ap, subst, arith, length-append}
 use Rattle.std.specs.Prelude.{◌<◌, ◌==◌, nat_lt, slice_get, is_some, if◌then◌else◌}
 use Rattle.std.specs.List.{All}
 use Rattle.base_core.specs.CrashImages.{Image, DiskState}
@@ -19,13 +19,13 @@ use Rattle.flat_db.proofs.LineLemmas.{pairs_below}
 use Rattle.flat_db.specs.Kept.{IsKept, SameEntries, map_among}
 use Rattle.flat_db.specs.Places.{IsPlaceOf, HasKeyAt, LacksKeyAt}
 use Rattle.flat_db.proofs.PlaceLemmas.{value_own, value_lacks, first_from_place, first_above_between, first_above_own}
-use Rattle.flat_db.specs.Sessions.{flat_kind, FlatSession, at_rest, within, broken, flat_state, FlatTied, session_of, changed, HoldsBy, IsOpen, IsSession}
+use Rattle.flat_db.specs.Sessions.{flat_kind, FlatSession, at_rest, within, flat_state, FlatTied, session_of, changed, HoldsBy, IsOpen, IsSession}
 use Rattle.flat_db.specs.declared.pairs.Pairs.{Pairs}
 use Rattle.flat_db.specs.declared.session.Stage.{Stage}
 use Rattle.flat_db.specs.declared.session.Stage.TheVariants.{Resting, Open, Broken}
 use Rattle.flat_db.specs.declared.session.Transaction.{Transaction}
 use Rattle.base_core.proofs.OrderedMaps.{without_absent}
-use Rattle.flat_db.proofs.KeptLemmas.{grown_map, grown_kept, same_kept}
+use Rattle.flat_db.proofs.KeptLemmas.{grown_map, grown_kept}
 
 -- ---- the tie
 

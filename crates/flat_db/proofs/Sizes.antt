@@ -1,13 +1,13 @@
 -- Sizes of lines and of texts.
-use Rattle.std.proofs.Common.{◌≡◌, ◌≢◌, ◌⊎◌, inl, inr, ⊎_elim, ℕ, ◌+◌, ◌*◌, ◌<◌, ◌≤◌, List, [], ◌∷◌, ◌++◌, length, get_or, take, drop, refl, sym, ◌∙◌, ap, append_assoc, arith, length-append}
+use Rattle.std.proofs.Common.{◌≡◌, ◌≢◌, ◌⊎◌, inl, inr, ℕ, ◌+◌, ◌*◌, ◌<◌, ◌≤◌, List, [], ◌∷◌, ◌++◌, length, get_or, take, drop, refl, sym, ◌∙◌, ap, append_assoc, arith, length-append}
 use Rattle.std.proofs.lemmas.List.{take_more, map-append, append-nil, take-append-drop}
 use Rattle.std.specs.declared.cmp.Ordering.{Ordering}
 use Rattle.std.specs.declared.cmp.Ordering.TheVariants.{Less, Equal, Greater}
 use Rattle.std.specs.Ordering.{match_ordering}
-use Rattle.std.specs.Prelude.{fold, flat_map}
+use Rattle.std.specs.Prelude.{fold}
 use Rattle.std.specs.BTreeMap.{insert_entry}
 use Rattle.base_core.specs.Escapes.{escaped_byte, escaped, Spells}
-use Rattle.base_core.specs.OrderedMap.{Map, IsOrderedMap, key_order, put, without}
+use Rattle.base_core.specs.OrderedMap.{Map, key_order, put, without}
 use Rattle.base_core.proofs.EscapeLemmas.{escaped_bound, byte_cases}
 use Rattle.base_core.proofs.OrderedMaps.{same_key}
 use Rattle.flat_db.specs.FlatText.{pair_line, canonical_text, SaysPair, SaysPairs, FlatTextOf}

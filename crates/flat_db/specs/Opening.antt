@@ -1,5 +1,5 @@
 -- What a flat file opens to, why it may not, and what opening does to its disk.
-use Rattle.std.specs.Prelude.{◌≡◌, ℕ, List}
+use Rattle.std.specs.Prelude.{◌≡◌}
 use Rattle.base_core.specs.CrashImages.{Image, DiskState, LeavesOnly}
 use Rattle.base_core.specs.OrderedMap.{Map}
 use Rattle.base_core.specs.declared.limits.TheConstants.{FLAT_LIMIT}

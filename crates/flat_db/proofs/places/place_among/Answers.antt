@@ -1,4 +1,4 @@
-use Rattle.std.proofs.Common.{◌≢◌, ◌<◌, length, arith}
+use Rattle.std.proofs.Common.{◌<◌, length, arith}
 use Rattle.std.proofs.lemmas.List.{get_or_default}
 use Rattle.flat_db.proofs.PlaceLemmas.{own_place, end_place, other_place, same_part, other_part}
 use Rattle.flat_db.proofs.places.place_among.Goals as goal

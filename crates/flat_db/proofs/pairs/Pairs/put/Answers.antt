@@ -1,4 +1,4 @@
-use Rattle.std.proofs.Common.{◌≡◌, ◌∙◌, ◌<◌, ℕ, List, length, set, refl, sym, ap, subst, arith}
+use Rattle.std.proofs.Common.{◌≡◌, ◌∙◌, ℕ, List, length, set, refl, sym, ap, subst}
 use Rattle.std.specs.List.{All, insert}
 use Rattle.base_core.specs.OrderedMap.{Map, put}
 use Rattle.flat_db.specs.FlatText.{canonical_text}

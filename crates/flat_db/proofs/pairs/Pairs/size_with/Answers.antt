@@ -1,5 +1,4 @@
-use Rattle.std.proofs.Common.{◌≡◌, ◌∙◌, ap, length, refl, arith}
-use Rattle.flat_db.specs.FlatText.{pair_line}
+use Rattle.std.proofs.Common.{refl, arith}
 use Rattle.flat_db.specs.Kept.{map_among}
 use Rattle.flat_db.proofs.PairLemmas.{own_line}
 use Rattle.flat_db.proofs.Sizes.{size_without_own, size_over_own, size_in_between, line_is}

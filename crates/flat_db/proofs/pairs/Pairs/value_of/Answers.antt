@@ -1,4 +1,4 @@
-use Rattle.std.proofs.Common.{Some, sym, ◌∙◌, ap, arith}
+use Rattle.std.proofs.Common.{Some, sym, ◌∙◌, ap}
 use Rattle.flat_db.specs.Kept.{map_among}
 use Rattle.flat_db.proofs.PlaceLemmas.{value_own, value_lacks}
 use Rattle.flat_db.proofs.PairLemmas.{own_pair}

@@ -1,6 +1,6 @@
-use Rattle.std.proofs.Common.{◌≡◌, ◌∙◌, sym, ap, subst}
+use Rattle.std.proofs.Common.{◌∙◌, sym, ap, subst}
 use Rattle.db_core.specs.Sessions.{DbState}
-use Rattle.flat_db.specs.Sessions.{FlatTied, IsSession, session_of, flat_state}
+use Rattle.flat_db.specs.Sessions.{IsSession, session_of, flat_state}
 use Rattle.flat_db.specs.declared.session.Stage.{Stage}
 use Rattle.flat_db.proofs.SessionLemmas.{tied_same, nothing_owed, back_kept, back_state}
 use Rattle.flat_db.proofs.session.FlatDbDb.abort.Goals as goal
