@@ -13,7 +13,7 @@ use Rattle.db_core.specs.Opening.{IsTooBig}
 use Rattle.flat_db.specs.FlatText.{FlatTextOf, IsFlawedAt, canonical_text}
 use Rattle.flat_db.specs.Opening.{flat_opens}
 use Rattle.flat_db.proofs.TextLaws.{text_is_one_map, first_flaw_is_one, flaw_or_map}
-use Rattle.cyr_top.specs.StatedResult.{IsSet, IsFull, IsDamaged, IsStated, IsCause, IsFault}
+use Rattle.cyr_top.specs.StatedResult.{IsFull, IsDamaged, IsStated, IsCause, IsFault}
 
 same_text : (main : Image) (a b : List ℕ) → main ≡ Some a → main ≡ Some b → a ≡ b
 same_text main a b first second = cc (first, second)

@@ -1,5 +1,5 @@
 -- What may be left of a run, in words of maps and transactions.
-use Rattle.std.proofs.Common.{◌≡◌, ◌⊎◌, inl, inr, ⊎_elim, ℕ, Bool, true, false, List, [], ◌∷◌, Option, None, Some, ◌≤◌, refl, subst, arith}
+use Rattle.std.proofs.Common.{◌≡◌, ◌⊎◌, ⊎_elim, ℕ, Bool, true, false, List, [], ◌∷◌, Option, None, Some, ◌≤◌, refl, subst, arith}
 use Rattle.std.specs.Prelude.{if◌then◌else◌}
 use Rattle.base_core.specs.CrashImages.{Image, DiskState, LeavesOnly, IsMoment, SameDisk}
 use Rattle.base_core.specs.OrderedMap.{Map, put}
@@ -10,9 +10,9 @@ use Rattle.base_core.specs.declared.action.Action.TheVariants.{Set}
 use Rattle.flat_db.specs.Opening.{flat_opens}
 use Rattle.cyr_top.specs.declared.jobs.Job.{Job}
 use Rattle.cyr_top.specs.declared.jobs.Job.TheVariants.{Dbtool}
-use Rattle.cyr_top.specs.JobOf.{job_of, asks_set, set_job, CanSet, CanDo}
+use Rattle.cyr_top.specs.JobOf.{job_of, asks_set, set_job, CanDo}
 use Rattle.cyr_top.specs.Opened.{opens, EachOpens, KeepsPrefix, backend_of, transactions_of}
-use Rattle.cyr_top.specs.StatedResult.{KeepsMap, SetsPair, LeftByJob, MayBeLeft}
+use Rattle.cyr_top.specs.StatedResult.{KeepsMap, LeftByJob, MayBeLeft}
 use Rattle.cyr_top.proofs.CauseLemmas.{one_map}
 use Rattle.cyr_top.proofs.WordLemmas.{can_set}
 

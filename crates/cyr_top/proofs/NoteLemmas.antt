@@ -1,17 +1,15 @@
 -- What a set answers is what is stated.
-use Rattle.std.proofs.Common.{◌≡◌, ◌≢◌, ◌⊎◌, inl, inr, ⊎_elim, ℕ, ◌<◌, ◌≤◌, Bool, true, false, List, [], ◌∷◌, Option, Some, None, length, refl, sym, ◌∙◌, ap, subst, arith}
+use Rattle.std.proofs.Common.{◌≡◌, inl, inr, ℕ, ◌<◌, ◌≤◌, Bool, true, false, List, [], ◌∷◌, Option, Some, None, length, refl, sym, ◌∙◌, ap, subst, arith}
 use Rattle.std.specs.Prelude.{◌==◌, nat_lt, if◌then◌else◌}
 use Rattle.std.specs.Option.{option_or}
 use Rattle.base_core.specs.CrashImages.{Image}
 use Rattle.base_core.specs.OrderedMap.{Map, IsBelow, put}
 use Rattle.base_core.specs.declared.limits.TheConstants.{FLAT_LIMIT, KEY_LIMIT, VALUE_LIMIT}
 use Rattle.base_core.specs.declared.note.Note.{Note}
-use Rattle.base_core.specs.declared.note.Note.TheVariants.{Done, Usage}
 use Rattle.base_core.proofs.OrderedMaps.{nothing_below}
 use Rattle.db_core.specs.Sessions.{begun}
-use Rattle.db_core.specs.Answers.{size_refusal, pair_refusal, IsDiskFault}
+use Rattle.db_core.specs.Answers.{pair_refusal, IsDiskFault}
 use Rattle.db_core.specs.WholeTransactions.{MayEnd, run_refusal}
-use Rattle.db_core.specs.Opening.{IsDeviceFault}
 use Rattle.db_core.specs.declared.change.Change.TheVariants.{Put}
 use Rattle.db_core.specs.declared.fault.DbFault.{DbFault}
 use Rattle.db_core.specs.declared.fault.DbFault.TheVariants.{Broken, KeyEmpty, KeyTooLong, ValueTooLong, Full, NoMemory, DiskFault}
@@ -22,7 +20,7 @@ use Rattle.flat_db.specs.Opening.{flat_opens, IsRefused as IsRefusedOpening}
 use Rattle.flat_db.specs.Sessions.{flat_kind, flat_state, at_rest}
 use Rattle.flat_db.proofs.SessionLemmas.{store_owed}
 use Rattle.cyr_top.specs.JobOf.{CanSet}
-use Rattle.cyr_top.specs.StatedResult.{opening_note, change_note, IsSet, IsStated, IsFault, IsBuilt, IsRefused}
+use Rattle.cyr_top.specs.StatedResult.{opening_note, change_note, IsStated, IsRefused}
 
 -- ---- a database that was not opened
 

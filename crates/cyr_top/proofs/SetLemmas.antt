@@ -1,5 +1,5 @@
 -- What is left while a pair is set.
-use Rattle.std.proofs.Common.{◌≡◌, ◌⊎◌, inl, inr, ⊎_elim, List, ℕ, [], ◌∷◌, Option, Some, None, false, refl, sym, ◌∙◌, ap, subst}
+use Rattle.std.proofs.Common.{◌≡◌, ◌⊎◌, inl, inr, ⊎_elim, List, ℕ, [], ◌∷◌, Some, false, refl, sym, ◌∙◌, ap, subst}
 use Rattle.std.specs.Prelude.{IsSome}
 use Rattle.base_core.specs.CrashImages.{Image, DiskState, GoesOn, LeavesOnly, IsMoment}
 use Rattle.base_core.specs.OrderedMap.{Map, put}

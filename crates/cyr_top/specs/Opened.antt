@@ -1,5 +1,5 @@
 -- What a crash may leave of a job's database, in words of maps and transactions.
-use Rattle.std.specs.Prelude.{ℕ, ◌-◌, ◌≤◌, List, [], ◌∷◌, None, Some, length}
+use Rattle.std.specs.Prelude.{ℕ, ◌-◌, ◌≤◌, List, [], ◌∷◌, length}
 use Rattle.base_core.specs.CrashImages.{Image, DiskState}
 use Rattle.base_core.specs.OrderedMap.{Map}
 use Rattle.base_core.specs.Transactions.{Transaction, Store, after_first}

@@ -12,7 +12,7 @@ use Rattle.base_core.specs.declared.action.Backend.TheVariants.{Flat}
 use Rattle.base_core.specs.declared.action.Action.TheVariants.{Set}
 use Rattle.db_core.specs.Opening.{Holds, IsTooBig}
 use Rattle.db_core.specs.declared.fault.DbFault.{DbFault}
-use Rattle.db_core.specs.declared.fault.DbFault.TheVariants.{Broken, KeyEmpty, KeyTooLong, ValueTooLong, Full, NoMemory, DiskFault}
+use Rattle.db_core.specs.declared.fault.DbFault.TheVariants.{KeyEmpty, KeyTooLong, ValueTooLong, Full, NoMemory}
 use Rattle.db_core.specs.declared.fault.OpenFault.{OpenFault}
 use Rattle.db_core.specs.declared.fault.OpenFault.TheVariants.{Absent as NoFile, TooBig, NoMemory as NoRoom, DiskFault as NoDisk, Damaged as Flawed}
 use Rattle.flat_db.specs.FlatText.{IsFlawedAt, canonical_text}

@@ -72,7 +72,11 @@ fn set_flat<H: Host>(alloc: Global, key: Bytes, value: Bytes, host: &mut H) -> N
         Ok(db) => db,
         Err(fault) => return note_of_opening(fault),
     };
-    let changes = [Change::Put { word: 0, key, value }];
+    let changes = [Change::Put {
+        word: 0,
+        key,
+        value,
+    }];
     match run_changes(&mut db, host, &changes) {
         Ok(()) => Note::Done,
         Err(fault) => note_of_change(fault),
@@ -95,7 +99,9 @@ fn do_job<H: Host>(alloc: Global, job: Job, host: &mut H) -> Note
     ensures rest { H.disk_rest host.old host.new }
 {
     let Job::Dbtool {
-        backend, action, ..
+        backend,
+        action,
+        ..
     } = job;
     match action {
         Action::Set { key, value } if backend == Backend::Flat => {

@@ -1,11 +1,9 @@
-use Rattle.std.proofs.Common.{◌≡◌, ◌⊎◌, ⊎_elim, List, Option, ◌∷◌, [], sym, ◌∙◌, ap, subst}
-use Rattle.base_core.specs.CrashImages.{Image}
+use Rattle.std.proofs.Common.{⊎_elim, ◌∷◌, [], sym, ◌∙◌, ap, subst}
 use Rattle.base_core.specs.declared.note.Note.{Note}
 use Rattle.db_core.specs.WholeTransactions.{run_refusal, MayEnd}
 use Rattle.db_core.specs.declared.change.Change.TheVariants.{Put}
-use Rattle.db_core.specs.declared.fault.DbFault.{DbFault}
 use Rattle.flat_db.specs.Sessions.{FlatSession, flat_kind, flat_state}
-use Rattle.cyr_top.specs.StatedResult.{IsStated, IsFault}
+use Rattle.cyr_top.specs.StatedResult.{IsStated}
 use Rattle.cyr_top.proofs.NoteLemmas.{opening_stated, owed_none, change_stated, not_refused}
 use Rattle.cyr_top.proofs.SetLemmas.{left_any, left_refused, left_done, reads_done}
 use Rattle.cyr_top.proofs.running.set_flat.Goals as goal
@@ -19,13 +17,16 @@ returns-in-Ok-run_changes-clause-stated g c main is =
     let on = g.met.H.Disk.rest_goes_on in
     let m = (flat_state c.in-Ok.db).committed in
     let reads = reads_done c.args.key c.args.value c.in-Ok.db m c.in-Ok.ensures.opened _ _ _ (on _ _ c.in-Ok.ensures.rest) (on _ _ c.in-Ok-run_changes.ensures.rest) (g.met.H.Disk.is_moment _) c.in-Ok.ensures.disk c.in-Ok.ensures.map c.run_changes.new.db
-    c.in-Ok-run_changes.ensures.answer.done c.in-Ok-run_changes.ensures.tied main is in
-    (reads.0, reads.1, record {
-      map = m;
-      before = c.in-Ok.ensures.map main is;
-      fits = owed_none c.args.key c.args.value m c.requires (ap (λ (s : FlatSession). run_refusal flat_kind (flat_state s) (Put 0 c.args.key c.args.value ∷ [])) (sym c.in-Ok.ensures.opened) ∙ c.in-Ok-run_changes.ensures.answer.ok);
-      done = reads.2;
-    })
+    c.in-Ok-run_changes.ensures.answer.done c.in-Ok-run_changes.ensures.tied main is in (
+      reads.0,
+      reads.1,
+      record {
+        map = m;
+        before = c.in-Ok.ensures.map main is;
+        fits = owed_none c.args.key c.args.value m c.requires (ap (λ (s : FlatSession). run_refusal flat_kind (flat_state s) (Put 0 c.args.key c.args.value ∷ [])) (sym c.in-Ok.ensures.opened) ∙ c.in-Ok-run_changes.ensures.answer.ok);
+        done = reads.2;
+      },
+    )
 
 pub returns-in-Ok-run_changes-clause-done : goal.returns-in-Ok-run_changes-clause-done
 returns-in-Ok-run_changes-clause-done g c is =
