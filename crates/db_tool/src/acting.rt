@@ -1,0 +1,213 @@
+// What the actions of `cyr_dbtool` do with an open database.
+ghost use Rattle.std.specs.Prelude.{◌≡◌, ◌⊎◌, ◌≤◌, ◌∷◌, [], true, false, None, Some, IfOk, OnOk, is_some, if◌then◌else◌};
+ghost use Rattle.std.specs.Option.{option_map};
+ghost use Rattle.base_core.specs.Causes.{HasCause, Rose};
+ghost use Rattle.base_core.specs.CrashImages.{LeavesOnly};
+ghost use Rattle.base_core.specs.HostCalls.{told_with};
+ghost use Rattle.base_core.specs.Notes.{status_of};
+ghost use Rattle.base_core.specs.OrderedMap.{value_at};
+ghost use Rattle.base_core.specs.declared.note.Note.{Note};
+ghost use Rattle.db_core.specs.Answers.{OnDisk};
+ghost use Rattle.db_core.specs.WholeTransactions.{map_after, run_after, run_refusal};
+ghost use Rattle.rand_core.specs.Stream.{next_u32};
+ghost use Rattle.db_tool.specs.Acting.{Acts, CanAct, IsChange, changes_by, value_line, told_by, note_by, lacks_key, draws_word, change_note, owed_by, IsEnd, IsFault, MayRefuse, ToldSome};
+ghost use Rattle.db_tool.specs.Printing.{TellsOnly};
+
+use crate::output::Output;
+use base_core::{Action, Bytes, Device, Failed, Host, LimitName, NoMemory, Note, Outcome};
+use db_core::{Change, Db, DbFault, run_changes};
+use rand_core::Rng;
+use std::alloc::Global;
+
+const HOST_FAULT: Note = Note::DeviceFault {
+    device: Device::Host,
+};
+
+// The note of a change that was refused.
+fn note_of(fault: DbFault) -> Note
+    ensures { result ≡ change_note fault }
+{
+    let (limit, number) = match fault {
+        DbFault::KeyTooLong { length } => (LimitName::Key, length),
+        DbFault::ValueTooLong { length } => (LimitName::Value, length),
+        DbFault::Full { size } => (LimitName::File, size),
+        DbFault::KeyEmpty => return Note::BadLine { line: 1 },
+        DbFault::NoMemory => return Note::Memory,
+        DbFault::Broken | DbFault::DiskFault => return HOST_FAULT,
+    };
+    Note::Limit { limit, number }
+}
+
+// Whether the action names a key and this has no byte.
+fn has_no_key(action: &Action) -> bool
+    ensures { result ≡ lacks_key action.now }
+{
+    match action {
+        Action::Get { key } | Action::Set { key, .. } | Action::Delete { key } => {
+            key.as_slice().is_empty()
+        }
+        _ => false,
+    }
+}
+
+// Prints a value and a line feed, in full before it ends.
+fn print_line<H: Host>(output: &mut Output, host: &mut H, value: &[u8]) -> Result<(), Failed>
+    requires { output.old ≡ [] }
+    ensures told { ToldSome (H.streams host.old) (H.streams host.new) (value_line (Some value.now)) }
+    ensures whole { OnOk result ((H.streams host.new).told ≡ told_with (H.streams host.old).told (value_line (Some value.now))) }
+    ensures disk { TellsOnly (H.state host.old) (H.state host.new) }
+    ensures cause { HasCause (H.state host.old).faults (H.state host.new).faults result }
+    ensures rest { H.host_rest host.old host.new }
+{
+    if let Err(fault) = output.print(host, value) {
+        return Err(fault);
+    }
+    if let Err(fault) = output.print(host, b"\n") {
+        return Err(fault);
+    }
+    output.flush(host)
+}
+
+// Prints the value of a key.
+fn get<H: Host, B: Db<H>>(alloc: Global, key: &[u8], db: &B, host: &mut H) -> Note
+    requires sound { (B.state db.now).is_broken ≡ false }
+    ensures stated { IsEnd result → result ≡ (if is_some (value_at (B.state db.now).seen key.now) then Note.Done else Note.Answer) }
+    ensures whole { IsEnd result → (H.streams host.new).told ≡ told_with (H.streams host.old).told (value_line (value_at (B.state db.now).seen key.now)) }
+    ensures told { ToldSome (H.streams host.old) (H.streams host.new) (value_line (value_at (B.state db.now).seen key.now)) }
+    ensures refused { (IsEnd result → ⊥) → MayRefuse None result }
+    ensures disk { TellsOnly (H.state host.old) (H.state host.new) }
+    ensures cause { IsFault result → Rose (H.state host.old).faults (H.state host.new).faults }
+    ensures no_fault { (IsFault result → ⊥) → (H.state host.new).faults ≡ (H.state host.old).faults }
+    ensures rest { H.host_rest host.old host.new }
+{
+    let Some(value) = db.fetch(key) else {
+        return Note::Answer;
+    };
+    let Ok(mut output) = Output::new(alloc) else {
+        return Note::Memory;
+    };
+    match print_line(&mut output, host, value) {
+        Ok(()) => Note::Done,
+        Err(_) => HOST_FAULT,
+    }
+}
+
+// Makes one transaction of one change.
+fn change<H: Host, B: Db<H>>(db: &mut B, host: &mut H, change: Change) -> Note
+    requires sound { (B.state db.old).is_broken ≡ false }
+    requires closed { (B.state db.old).in_transaction ≡ false }
+    requires tied { B.tie db.old host.old }
+    ensures ended { IsEnd result → (run_refusal B.kind (B.state db.old) (change ∷ []) ≡ None) × (result ≡ Note.Done) }
+    ensures made { IsEnd result → B.state db.new ≡ run_after B.kind (B.state db.old) (change ∷ []) }
+    ensures refused { (IsEnd result → ⊥) → MayRefuse (option_map change_note (run_refusal B.kind (B.state db.old) (change ∷ []))) result }
+    ensures same { (IsEnd result → ⊥) → (IsFault result → ⊥) → B.state db.new ≡ B.state db.old }
+    ensures disk { OnDisk B.kind (B.state db.old) (λ c. B.kind.opens c (B.state db.old).committed ⊎ B.kind.opens c (map_after (B.state db.old).seen (change ∷ []))) (H.state host.old) (H.state host.new) }
+    ensures given_up { (IsEnd result → ⊥) → (IsFault result → ⊥) → OnDisk B.kind (B.state db.old) (λ c. B.kind.opens c (B.state db.old).committed) (H.state host.old) (H.state host.new) }
+    ensures rose { IsFault result → Rose (H.state host.old).faults (H.state host.new).faults }
+    ensures stood { (IsFault result → ⊥) → (H.state host.new).faults ≡ (H.state host.old).faults }
+    ensures tied { B.tie db.new host.new }
+    ensures rest { H.disk_rest host.old host.new }
+{
+    match run_changes(db, host, &[change]) {
+        Ok(()) => Note::Done,
+        Err(fault) => note_of(fault),
+    }
+}
+
+// The change of an action that makes one.
+fn change_of(alloc: Global, word: u32, action: &Action) -> Result<Change, NoMemory>
+    requires { IsChange action.now }
+    ensures { IfOk result (λ change. changes_by word action.now ≡ change ∷ []) }
+{
+    match action {
+        Action::Set { key, value } => Ok(Change::Put {
+            word,
+            key: Bytes::of(alloc, key.as_slice())?,
+            value: Bytes::of(alloc, value.as_slice())?,
+        }),
+        Action::Delete { key } => Ok(Change::Del {
+            key: Bytes::of(alloc, key.as_slice())?,
+        }),
+        _ => unreachable!(),
+    }
+}
+
+// Does an action that changes the map.
+fn alter<H: Host, B: Db<H>>(
+    alloc: Global,
+    word: u32,
+    action: &Action,
+    db: &mut B,
+    host: &mut H,
+) -> Note
+    requires can { IsChange action.now }
+    requires key { lacks_key action.now ≡ false }
+    requires sound { (B.state db.old).is_broken ≡ false }
+    requires closed { (B.state db.old).in_transaction ≡ false }
+    requires tied { B.tie db.old host.old }
+    ensures acts { Acts B.kind word action.now (B.state db.old) (B.state db.new) (H.streams host.old) (H.streams host.new) (H.state host.old) (H.state host.new) result }
+    ensures tied { B.tie db.new host.new }
+    ensures rest { H.host_rest host.old host.new }
+{
+    let Ok(made) = change_of(alloc, word, action) else {
+        return Note::Memory;
+    };
+    change(db, host, made)
+}
+
+// Does an action whose key, if it has one, is not empty.
+fn perform<H: Host, B: Db<H>, R: Rng>(
+    alloc: Global,
+    action: &Action,
+    db: &mut B,
+    host: &mut H,
+    rng: &mut R,
+) -> Note
+    requires can { CanAct action.now }
+    requires key { lacks_key action.now ≡ false }
+    requires sound { (B.state db.old).is_broken ≡ false }
+    requires closed { (B.state db.old).in_transaction ≡ false }
+    requires tied { B.tie db.old host.old }
+    ensures acts { Acts B.kind (next_u32 (R.stream rng.old)).0 action.now (B.state db.old) (B.state db.new) (H.streams host.old) (H.streams host.new) (H.state host.old) (H.state host.new) result }
+    ensures drawn { R.stream rng.new ≡ (if draws_word action.now then (next_u32 (R.stream rng.old)).1 else R.stream rng.old) }
+    ensures tied { B.tie db.new host.new }
+    ensures rest { H.host_rest host.old host.new }
+{
+    match action {
+        Action::Get { key } => get(alloc, key.as_slice(), db, host),
+        Action::Set { .. } => alter(alloc, rng.next_u32(), action, db, host),
+        Action::Delete { .. } => alter(alloc, 0, action, db, host),
+        _ => unreachable!(),
+    }
+}
+
+/// Does an action with an open database, and prints what it prints in full before it ends.
+///
+/// An empty key is refused as line 1. A pair that is put takes one random word; nothing else draws one.
+pub fn act<H: Host, B: Db<H>, R: Rng>(
+    alloc: Global,
+    action: &Action,
+    db: &mut B,
+    host: &mut H,
+    rng: &mut R,
+) -> Outcome
+    requires can { CanAct action.now }
+    requires sound { (B.state db.old).is_broken ≡ false }
+    requires closed { (B.state db.old).in_transaction ≡ false }
+    requires tied { B.tie db.old host.old }
+    ensures status { result.status ≡ status_of result.note }
+    ensures acts { Acts B.kind (next_u32 (R.stream rng.old)).0 action.now (B.state db.old) (B.state db.new) (H.streams host.old) (H.streams host.new) (H.state host.old) (H.state host.new) result.note }
+    ensures drawn { R.stream rng.new ≡ (if draws_word action.now then (next_u32 (R.stream rng.old)).1 else R.stream rng.old) }
+    ensures tied { B.tie db.new host.new }
+    ensures rest { H.host_rest host.old host.new }
+{
+    let note = if has_no_key(action) {
+        Note::BadLine { line: 1 }
+    } else {
+        perform(alloc, action, db, host, rng)
+    };
+    Outcome {
+        status: note.status(),
+        note,
+    }
+}
