@@ -3,10 +3,10 @@ use Rattle.std.specs.Prelude.{◌≡◌, ◌⊎◌, ◌≤◌, ℕ, Bool, true, 
 use Rattle.std.specs.Option.{option_map}
 use Rattle.base_core.specs.Causes.{Rose}
 use Rattle.base_core.specs.CrashImages.{DiskState, LeavesOnly}
-use Rattle.base_core.specs.OrderedMap.{Map, value_at}
+use Rattle.base_core.specs.OrderedMap.{Map, value_at, with_prefix}
 use Rattle.base_core.specs.HostCalls.{HostState, told_with}
 use Rattle.base_core.specs.declared.action.Action.{Action}
-use Rattle.base_core.specs.declared.action.Action.TheVariants.{Get, Set, Delete}
+use Rattle.base_core.specs.declared.action.Action.TheVariants.{Show, Get, Set, Delete}
 use Rattle.base_core.specs.declared.note.Note.{Note}
 use Rattle.base_core.specs.declared.note.Note.TheVariants.{Done, Answer, BadLine, Limit, DeviceFault, Memory}
 use Rattle.base_core.specs.declared.note.LimitName.TheVariants.{Key, Value, File}
@@ -20,6 +20,7 @@ use Rattle.db_core.specs.declared.fault.DbFault.TheVariants.{KeyEmpty, KeyTooLon
 
 -- the actions that are built
 abbrev pub CanAct : Action → Type 0
+CanAct (Show prefix) = Unit {0}
 CanAct (Get key) = Unit {0}
 CanAct (Set key value) = Unit {0}
 CanAct (Delete key) = Unit {0}
@@ -42,8 +43,17 @@ abbrev pub value_line : Option (List ℕ) → List ℕ
 value_line None = []
 value_line (Some value) = value ++ (10 ∷ [])
 
+-- a pair is printed as its key, TAB, its value and a line feed, byte for byte
+abbrev pub pair_text : List ℕ × List ℕ → List ℕ
+pair_text p = p.0 ++ (9 ∷ (p.1 ++ (10 ∷ [])))
+
+abbrev pub shown : Map → List ℕ
+shown [] = []
+shown (p ∷ m) = pair_text p ++ shown m
+
 -- what an action prints over a map, and the note with which it ends
 abbrev pub told_by : Action → Map → List ℕ
+told_by (Show prefix) m = shown (with_prefix m prefix)
 told_by (Get key) m = value_line (value_at m key)
 told_by action m = []
 

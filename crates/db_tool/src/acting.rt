@@ -1,17 +1,17 @@
 // What the actions of `cyr_dbtool` do with an open database.
-ghost use Rattle.std.specs.Prelude.{◌≡◌, ◌⊎◌, ◌≤◌, ◌∷◌, [], true, false, None, Some, IfOk, OnOk, is_some, if◌then◌else◌};
+ghost use Rattle.std.specs.Prelude.{◌≡◌, ◌⊎◌, ◌≤◌, ◌∷◌, ◌++◌, [], true, false, None, Some, IfOk, OnOk, is_some, if◌then◌else◌};
 ghost use Rattle.std.specs.Option.{option_map};
 ghost use Rattle.base_core.specs.Causes.{HasCause, Rose};
 ghost use Rattle.base_core.specs.CrashImages.{LeavesOnly};
 ghost use Rattle.base_core.specs.HostCalls.{told_with};
 ghost use Rattle.base_core.specs.Notes.{status_of};
-ghost use Rattle.base_core.specs.OrderedMap.{value_at};
+ghost use Rattle.base_core.specs.OrderedMap.{IsOrderedMap, value_at, with_prefix};
 ghost use Rattle.base_core.specs.declared.note.Note.{Note};
 ghost use Rattle.db_core.specs.Answers.{OnDisk};
 ghost use Rattle.db_core.specs.WholeTransactions.{map_after, run_after, run_refusal};
 ghost use Rattle.rand_core.specs.Stream.{next_u32};
-ghost use Rattle.db_tool.specs.Acting.{Acts, CanAct, IsChange, changes_by, value_line, told_by, note_by, lacks_key, draws_word, change_note, owed_by, IsEnd, IsFault, MayRefuse, ToldSome};
-ghost use Rattle.db_tool.specs.Printing.{TellsOnly};
+ghost use Rattle.db_tool.specs.Acting.{Acts, CanAct, IsChange, changes_by, value_line, pair_text, shown, told_by, note_by, lacks_key, draws_word, change_note, owed_by, IsEnd, IsFault, MayRefuse, ToldSome};
+ghost use Rattle.db_tool.specs.Printing.{Prints, TellsOnly};
 
 use crate::output::Output;
 use base_core::{Action, Bytes, Device, Failed, Host, LimitName, NoMemory, Note, Outcome};
@@ -50,6 +50,22 @@ fn has_no_key(action: &Action) -> bool
     }
 }
 
+// Prints a part of a line, and the byte that ends it.
+fn print_part<H: Host>(
+    output: &mut Output,
+    host: &mut H,
+    part: &[u8],
+    end: u8,
+) -> Result<(), Failed>
+    ensures prints { Prints (H.streams host.old) (H.streams host.new) (H.state host.old) (H.state host.new) output.old output.new (part.now ++ end ∷ []) result }
+    ensures rest { H.host_rest host.old host.new }
+{
+    if let Err(fault) = output.print(host, part) {
+        return Err(fault);
+    }
+    output.print(host, &[end])
+}
+
 // Prints a value and a line feed, in full before it ends.
 fn print_line<H: Host>(output: &mut Output, host: &mut H, value: &[u8]) -> Result<(), Failed>
     requires { output.old ≡ [] }
@@ -59,10 +75,7 @@ fn print_line<H: Host>(output: &mut Output, host: &mut H, value: &[u8]) -> Resul
     ensures cause { HasCause (H.state host.old).faults (H.state host.new).faults result }
     ensures rest { H.host_rest host.old host.new }
 {
-    if let Err(fault) = output.print(host, value) {
-        return Err(fault);
-    }
-    if let Err(fault) = output.print(host, b"\n") {
+    if let Err(fault) = print_part(output, host, value, b'\n') {
         return Err(fault);
     }
     output.flush(host)
@@ -87,6 +100,94 @@ fn get<H: Host, B: Db<H>>(alloc: Global, key: &[u8], db: &B, host: &mut H) -> No
         return Note::Memory;
     };
     match print_line(&mut output, host, value) {
+        Ok(()) => Note::Done,
+        Err(_) => HOST_FAULT,
+    }
+}
+
+// Prints a pair: its key, TAB, its value and a line feed.
+fn print_pair<H: Host>(
+    output: &mut Output,
+    host: &mut H,
+    key: &[u8],
+    value: &[u8],
+) -> Result<(), Failed>
+    ensures prints { Prints (H.streams host.old) (H.streams host.new) (H.state host.old) (H.state host.new) output.old output.new (pair_text (key.now, value.now)) result }
+    ensures rest { H.host_rest host.old host.new }
+{
+    if let Err(fault) = print_part(output, host, key, b'\t') {
+        return Err(fault);
+    }
+    print_part(output, host, value, b'\n')
+}
+
+// Prints the pairs whose key has the prefix.
+fn print_pairs<H: Host, B: Db<H>>(
+    output: &mut Output,
+    prefix: &[u8],
+    db: &B,
+    host: &mut H,
+) -> Result<(), Failed>
+    requires sound { (B.state db.now).is_broken ≡ false }
+    requires ordered { IsOrderedMap (B.state db.now).seen }
+    ensures prints { Prints (H.streams host.old) (H.streams host.new) (H.state host.old) (H.state host.new) output.old output.new (shown (with_prefix (B.state db.now).seen prefix.now)) result }
+    ensures rest { H.host_rest host.old host.new }
+{
+    let mut next = db.at_least(prefix);
+    for _ in 0..db.count() {
+        let Some(pair) = next else {
+            break;
+        };
+        if !pair.key.starts_with(prefix) {
+            break;
+        }
+        if let Err(fault) = print_pair(output, host, pair.key, pair.value) {
+            return Err(fault);
+        }
+        next = db.after(pair.key);
+    }
+    Ok(())
+}
+
+// The same, in full before it ends.
+fn print_map<H: Host, B: Db<H>>(
+    output: &mut Output,
+    prefix: &[u8],
+    db: &B,
+    host: &mut H,
+) -> Result<(), Failed>
+    requires empty { output.old ≡ [] }
+    requires sound { (B.state db.now).is_broken ≡ false }
+    requires ordered { IsOrderedMap (B.state db.now).seen }
+    ensures told { ToldSome (H.streams host.old) (H.streams host.new) (shown (with_prefix (B.state db.now).seen prefix.now)) }
+    ensures whole { OnOk result ((H.streams host.new).told ≡ told_with (H.streams host.old).told (shown (with_prefix (B.state db.now).seen prefix.now))) }
+    ensures disk { TellsOnly (H.state host.old) (H.state host.new) }
+    ensures cause { HasCause (H.state host.old).faults (H.state host.new).faults result }
+    ensures rest { H.host_rest host.old host.new }
+{
+    if let Err(fault) = print_pairs(output, prefix, db, host) {
+        return Err(fault);
+    }
+    output.flush(host)
+}
+
+// Prints the pairs whose key has the prefix, by rising key.
+fn show<H: Host, B: Db<H>>(alloc: Global, prefix: &[u8], db: &B, host: &mut H) -> Note
+    requires sound { (B.state db.now).is_broken ≡ false }
+    requires ordered { IsOrderedMap (B.state db.now).seen }
+    ensures stated { IsEnd result → result ≡ Note.Done }
+    ensures whole { IsEnd result → (H.streams host.new).told ≡ told_with (H.streams host.old).told (shown (with_prefix (B.state db.now).seen prefix.now)) }
+    ensures told { ToldSome (H.streams host.old) (H.streams host.new) (shown (with_prefix (B.state db.now).seen prefix.now)) }
+    ensures refused { (IsEnd result → ⊥) → MayRefuse None result }
+    ensures disk { TellsOnly (H.state host.old) (H.state host.new) }
+    ensures cause { IsFault result → Rose (H.state host.old).faults (H.state host.new).faults }
+    ensures no_fault { (IsFault result → ⊥) → (H.state host.new).faults ≡ (H.state host.old).faults }
+    ensures rest { H.host_rest host.old host.new }
+{
+    let Ok(mut output) = Output::new(alloc) else {
+        return Note::Memory;
+    };
+    match print_map(&mut output, prefix, db, host) {
         Ok(()) => Note::Done,
         Err(_) => HOST_FAULT,
     }
@@ -167,6 +268,7 @@ fn perform<H: Host, B: Db<H>, R: Rng>(
     requires key { lacks_key action.now ≡ false }
     requires sound { (B.state db.old).is_broken ≡ false }
     requires closed { (B.state db.old).in_transaction ≡ false }
+    requires ordered { IsOrderedMap (B.state db.old).seen }
     requires tied { B.tie db.old host.old }
     ensures acts { Acts B.kind (next_u32 (R.stream rng.old)).0 action.now (B.state db.old) (B.state db.new) (H.streams host.old) (H.streams host.new) (H.state host.old) (H.state host.new) result }
     ensures drawn { R.stream rng.new ≡ (if draws_word action.now then (next_u32 (R.stream rng.old)).1 else R.stream rng.old) }
@@ -174,6 +276,7 @@ fn perform<H: Host, B: Db<H>, R: Rng>(
     ensures rest { H.host_rest host.old host.new }
 {
     match action {
+        Action::Show { prefix } => show(alloc, prefix.as_slice(), db, host),
         Action::Get { key } => get(alloc, key.as_slice(), db, host),
         Action::Set { .. } => alter(alloc, rng.next_u32(), action, db, host),
         Action::Delete { .. } => alter(alloc, 0, action, db, host),
@@ -194,6 +297,7 @@ pub fn act<H: Host, B: Db<H>, R: Rng>(
     requires can { CanAct action.now }
     requires sound { (B.state db.old).is_broken ≡ false }
     requires closed { (B.state db.old).in_transaction ≡ false }
+    requires ordered { IsOrderedMap (B.state db.old).seen }
     requires tied { B.tie db.old host.old }
     ensures status { result.status ≡ status_of result.note }
     ensures acts { Acts B.kind (next_u32 (R.stream rng.old)).0 action.now (B.state db.old) (B.state db.new) (H.streams host.old) (H.streams host.new) (H.state host.old) (H.state host.new) result.note }

@@ -2,7 +2,7 @@
 ghost use Rattle.std.specs.Prelude.{◌≡◌, ◌≤◌, Some, IsSome, IfOk, IfErr, OnOk, length};
 ghost use Rattle.base_core.specs.CrashImages.{Image, StaysAs};
 ghost use Rattle.base_core.specs.DiskCalls.{HasLength};
-ghost use Rattle.base_core.specs.OrderedMap.{Map};
+ghost use Rattle.base_core.specs.OrderedMap.{IsOrderedMap, Map};
 ghost use Rattle.db_core.specs.Opening.{HasOpenCause};
 ghost use Rattle.flat_db.specs.Opening.{flat_opens, IsRefused, MayLeaveLess};
 ghost use Rattle.flat_db.specs.Sessions.{FlatTied, at_rest, flat_state};
@@ -65,6 +65,7 @@ fn read_map<D: Disk>(alloc: Global, disk: &mut D, size: u64) -> Result<FlatMap, 
 pub fn open_db<D: Disk>(alloc: Global, disk: &mut D) -> Result<FlatDb, OpenFault>
     ensures opened { IfOk result (λ db. db ≡ at_rest (flat_state db).committed) }
     ensures map { IfOk result (λ db. (main : Image) → (D.state disk.old).reads ≡ Some main → flat_opens main (flat_state db).committed) }
+    ensures ordered { IfOk result (λ db. IsOrderedMap (flat_state db).seen) }
     ensures tied { IfOk result (λ db. FlatTied db (D.state disk.new)) }
     ensures refusal { IfErr result (λ fault. (main : Image) → (D.state disk.old).reads ≡ Some main → IsRefused main fault) }
     ensures reads { OnOk result ((D.state disk.new).reads ≡ (D.state disk.old).reads) }

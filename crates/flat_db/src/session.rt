@@ -1,5 +1,6 @@
 // A session over a flat file, whose text is rewritten whole by each transaction that changed something.
 ghost use Rattle.std.specs.Prelude.{◌≡◌, ◌⊎◌, [], true, false, Some, IsSome, IsErrOf, IfOk, IfErr, OnOk};
+ghost use Rattle.base_core.specs.OrderedMap.{IsOrderedMap};
 ghost use Rattle.db_core.specs.Answers.{Answers, HasDbCause, IsDiskFault, OnDisk, broken_refusal};
 ghost use Rattle.db_core.specs.Sessions.{committed};
 ghost use Rattle.db_core.specs.declared.fault.DbFault.TheVariants.{NoMemory as MemoryRanOut};
@@ -89,7 +90,8 @@ impl Model for FlatDb {
 impl FlatDb {
     // A session over the map of a text.
     pub(crate) fn over(alloc: Global, map: FlatMap) -> FlatDb
-        ensures { result ≡ at_rest map }
+        ensures rests { result ≡ at_rest map }
+        ensures ordered { IsOrderedMap map }
     {
         FlatDb {
             alloc,

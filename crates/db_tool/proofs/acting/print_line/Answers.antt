@@ -1,32 +1,21 @@
-use Rattle.std.proofs.Common.{◌∷◌, ◌++◌, [], ℕ, List, Ok, Err, refl, subst}
+use Rattle.std.proofs.Common.{◌∷◌, ◌++◌, [], ℕ, List, Err, refl, subst}
 use Rattle.std.proofs.lemmas.List.{append-nil}
 use Rattle.db_tool.specs.Printing.{Prints}
 use Rattle.db_tool.proofs.PrintLemmas.{prints_then, prints_told, prints_whole}
 use Rattle.db_tool.proofs.acting.print_line.Given.{Over}
 use Rattle.db_tool.proofs.acting.print_line.Goals as goal
 
--- the value and the line feed, up to the one that failed
-failed_line : (g : Over) (c : goal.In-Err-print g) → Prints {T = Unit {0}} (g.H.Host.streams c.args.host.now) (g.H.Host.streams c.print-2.new.host) (g.H.Disk.state c.args.host.now) (g.H.Disk.state c.print-2.new.host) [] c.print-2.new.self (c.args.value.now ++ (10 ∷ [])) (Err c.in-Err-print.fault)
-failed_line g c =
-    let on = g.met.H.Host.host_goes_on in
-    subst (λ (l : List ℕ). Prints {T = Unit {0}} (g.H.Host.streams c.args.host.now) (g.H.Host.streams c.print-2.new.host) (g.H.Disk.state c.args.host.now) (g.H.Disk.state c.print-2.new.host) l c.print-2.new.self (c.args.value.now ++ (10 ∷ [])) (Err c.in-Err-print.fault)) c.requires
-    (prints_then _ _ _ _ _ _ c.args.output.now c.print.new.self c.print-2.new.self c.args.value.now (10 ∷ []) tt (Err c.in-Err-print.fault) (on _ _ c.print.ensures.rest) (on _ _ c.print-2.ensures.rest) c.in_default.ensures.prints c.in-Err-print.ensures.prints)
-
--- the value, the line feed and the end
+-- the line and the end
 whole_line : (g : Over) (c : goal.After-flush g) → Prints (g.H.Host.streams c.args.host.now) (g.H.Host.streams c.flush.new.host) (g.H.Disk.state c.args.host.now) (g.H.Disk.state c.flush.new.host) [] c.flush.new.self ((c.args.value.now ++ (10 ∷ [])) ++ []) c.flush.result
 whole_line g c =
     let on = g.met.H.Host.host_goes_on in
-    let both = on _ _ (g.met.H.Host.host_then _ _ _ c.print.ensures.rest c.print-2.ensures.rest) in
     subst (λ (l : List ℕ). Prints (g.H.Host.streams c.args.host.now) (g.H.Host.streams c.flush.new.host) (g.H.Disk.state c.args.host.now) (g.H.Disk.state c.flush.new.host) l c.flush.new.self ((c.args.value.now ++ (10 ∷ [])) ++ []) c.flush.result) c.requires
-    (prints_then _ _ _ _ _ _ c.args.output.now c.print-2.new.self c.flush.new.self (c.args.value.now ++ (10 ∷ [])) [] tt c.flush.result both (on _ _ c.flush.ensures.rest)
-    (prints_then _ _ _ _ _ _ c.args.output.now c.print.new.self c.print-2.new.self c.args.value.now (10 ∷ []) tt (Ok (tt {0})) (on _ _ c.print.ensures.rest) (on _ _ c.print-2.ensures.rest) c.in_default.ensures.prints c.in_default-print.ensures.prints)
-    c.flush.ensures.prints)
+    (prints_then _ _ _ _ _ _ c.args.output.now c.print_part.new.output c.flush.new.self (c.args.value.now ++ (10 ∷ [])) [] tt c.flush.result (on _ _ c.print_part.ensures.rest) (on _ _ c.flush.ensures.rest) c.in_default.ensures.prints c.flush.ensures.prints)
 
-pub returns-in-Err-print-clause-told : goal.returns-in-Err-print-clause-told
-returns-in-Err-print-clause-told g c = prints_told _ _ _ _ c.print-2.new.self _ _ (Err c.in-Err-print.fault) refl (failed_line g c)
-
-pub returns-in-Err-print-clause-disk : goal.returns-in-Err-print-clause-disk
-returns-in-Err-print-clause-disk g c = (failed_line g c).disk
+pub returns-in-Err-clause-told : goal.returns-in-Err-clause-told
+returns-in-Err-clause-told g c =
+    prints_told _ _ _ _ c.print_part.new.output _ _ (Err c.in-Err.fault) refl
+    (subst (λ (l : List ℕ). Prints {T = Unit {0}} (g.H.Host.streams c.args.host.now) (g.H.Host.streams c.print_part.new.host) (g.H.Disk.state c.args.host.now) (g.H.Disk.state c.print_part.new.host) l c.print_part.new.output (c.args.value.now ++ (10 ∷ [])) (Err c.in-Err.fault)) c.requires c.in-Err.ensures.prints)
 
 pub returns-clause-told : goal.returns-clause-told
 returns-clause-told g c = prints_told _ _ _ _ c.flush.new.self _ _ c.flush.result (append-nil (c.args.value.now ++ (10 ∷ []))) (whole_line g c)
