@@ -17,6 +17,7 @@ const ROOM: u64 = 4_000;
 // An action, as the tables name it.
 #[derive(Clone, Copy)]
 enum Order {
+    Show(&'static [u8]),
     Get(&'static [u8]),
     Set(&'static [u8], &'static [u8]),
     Delete(&'static [u8]),
@@ -33,6 +34,30 @@ struct Case {
 }
 
 const CASES: &[Case] = &[
+    Case {
+        name: "all pairs, by rising key",
+        main: b"b\t1\na\t2\nb\t3",
+        order: Order::Show(b""),
+        status: 0,
+        told: b"a\t2\nb\t3\n",
+        left: b"b\t1\na\t2\nb\t3",
+    },
+    Case {
+        name: "the pairs with a prefix, which is a key too",
+        main: b"a\t1\nb\t2\nba\t3\nc\t4\n",
+        order: Order::Show(b"b"),
+        status: 0,
+        told: b"b\t2\nba\t3\n",
+        left: b"a\t1\nb\t2\nba\t3\nc\t4\n",
+    },
+    Case {
+        name: "no pair has the prefix",
+        main: b"a\t1\nc\t4\n",
+        order: Order::Show(b"b"),
+        status: 0,
+        told: b"",
+        left: b"a\t1\nc\t4\n",
+    },
     Case {
         name: "the value of a key that is there",
         main: b"a\t1\nb\t2\n",
@@ -111,6 +136,9 @@ fn action_of(alloc: Global, order: Order) -> Result<Action, NoMemory>
     ensures { IfOk result (λ action. CanAct action) }
 {
     match order {
+        Order::Show(prefix) => Ok(Action::Show {
+            prefix: Bytes::of(alloc, prefix)?,
+        }),
         Order::Get(key) => Ok(Action::Get {
             key: Bytes::of(alloc, key)?,
         }),
