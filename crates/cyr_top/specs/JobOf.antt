@@ -1,50 +1,63 @@
 -- The one job that a command line stands for, or none. It grows as tools and actions are built.
-use Rattle.std.specs.Prelude.{ℕ, ◌≤◌, ◌&&◌, Bool, false, not, nat_lt, nat_le, nat_eq, List, [], ◌∷◌, Option, None, Some, length, codes, if◌then◌else◌}
-use Rattle.std.specs.List.{starts_with}
+use Rattle.std.specs.Prelude.{◌≡◌, ℕ, ◌&&◌, Bool, true, false, not, nat_eq, List, [], ◌∷◌, Option, None, Some, codes, if◌then◌else◌}
+use Rattle.std.specs.List.{list_all, starts_with}
+use Rattle.std.specs.Option.{option_map}
 use Rattle.std.specs.Str.{bytes_eq}
-use Rattle.base_core.specs.OrderedMap.{IsBelow}
 use Rattle.base_core.specs.declared.action.Backend.TheVariants.{Flat}
-use Rattle.base_core.specs.declared.action.Action.TheVariants.{Set}
-use Rattle.base_core.specs.declared.limits.TheConstants.{KEY_LIMIT, VALUE_LIMIT}
+use Rattle.base_core.specs.declared.action.Action.{Action}
+use Rattle.base_core.specs.declared.action.Action.TheVariants.{Show, Get, Set, Delete, Consistent}
 use Rattle.cyr_top.specs.declared.jobs.Job.{Job}
 use Rattle.cyr_top.specs.declared.jobs.Job.TheVariants.{Dbtool}
 
--- a word that begins with `-` would be a flag, and none is built
+-- the flag that makes an absent file
+abbrev pub is_make_flag : List ℕ → Bool
+is_make_flag word = bytes_eq word (codes "-n")
+
+-- a word that begins with `-` is no operand
 abbrev pub is_operand : List ℕ → Bool
 is_operand word = not (starts_with nat_eq word (codes "-"))
 
--- a key of 1 to KEY_LIMIT bytes
-abbrev pub is_key : List ℕ → Bool
-is_key word = nat_lt 0 (length word) && nat_le (length word) KEY_LIMIT
+-- the action of a name and the words behind it
+abbrev pub action_of : List ℕ → List (List ℕ) → Option Action
+action_of name [] =
+    if bytes_eq name (codes "show") then Some (Show [])
+    else (if bytes_eq name (codes "consistent") then Some Consistent else None)
+action_of name (word ∷ []) =
+    if bytes_eq name (codes "show") then Some (Show word)
+    else (if bytes_eq name (codes "get") then Some (Get word)
+    else (if bytes_eq name (codes "delete") then Some (Delete word) else None))
+action_of name (key ∷ value ∷ []) = if bytes_eq name (codes "set") then Some (Set key value) else None
+action_of name words = None
 
--- a value of at most VALUE_LIMIT bytes
-abbrev pub is_value : List ℕ → Bool
-is_value word = nat_le (length word) VALUE_LIMIT
+-- the job of `FILE flat ACTION ..`
+abbrev pub database_job : Bool → List (List ℕ) → Option Job
+database_job make (file ∷ backend ∷ name ∷ words) =
+    if bytes_eq backend (codes "flat") && list_all is_operand (file ∷ words) then option_map (Dbtool make file Flat) (action_of name words) else None
+database_job make words = None
 
--- a pair is set in a flat file
-abbrev pub set_job : List ℕ → List ℕ → List ℕ → Job
-set_job file key value = Dbtool false file Flat (Set key value)
-
--- whether the words are `cyr_dbtool FILE flat set KEY VALUE`
-abbrev pub asks_set : List ℕ → List ℕ → List ℕ → List ℕ → List ℕ → List ℕ → Bool
-asks_set tool file backend action key value =
-    bytes_eq tool (codes "cyr_dbtool") && bytes_eq backend (codes "flat") && bytes_eq action (codes "set")
-    && is_operand file && is_operand key && is_operand value && is_key key && is_value value
-
+-- The first word names the tool, and flags come before all other words.
 abbrev pub job_of : List (List ℕ) → Option Job
-job_of (tool ∷ file ∷ backend ∷ action ∷ key ∷ value ∷ []) = if asks_set tool file backend action key value then Some (set_job file key value) else None
+job_of (tool ∷ flag ∷ words) =
+    if bytes_eq tool (codes "cyr_dbtool") then (if is_make_flag flag then database_job true words else database_job false (flag ∷ words)) else None
 job_of words = None
 
--- what holds of a pair that words ask to set
-pub record CanSet (key value : List ℕ) : Type 0 where
-  pub some : IsBelow [] key
-  pub short_key : length key ≤ KEY_LIMIT
-  pub short_value : length value ≤ VALUE_LIMIT
+-- the actions that are built
+abbrev pub CanDo : Action → Type 0
+CanDo (Show prefix) = Unit {0}
+CanDo (Get key) = Unit {0}
+CanDo (Set key value) = Unit {0}
+CanDo (Delete key) = Unit {0}
+CanDo Consistent = Unit {0}
+CanDo action = ⊥
 
--- what holds of a job that words stand for
-abbrev pub CanDo : Job → Type 0
-CanDo (Dbtool false file Flat (Set key value)) = CanSet key value
-CanDo job = ⊥
+-- a job that words stand for is one of a built action over a flat file
+abbrev pub IsBuiltJob : Job → Type 0
+IsBuiltJob (Dbtool make file Flat action) = CanDo action
+IsBuiltJob job = ⊥
+
+-- the words ask for this action over a flat file
+abbrev pub Asks : List (List ℕ) → Bool → Action → Type 0
+Asks words make action = (file : List ℕ) × (job_of words ≡ Some (Dbtool make file Flat action))
 
 -- the path of a job's main file
 abbrev pub main_path : Job → List ℕ

@@ -1,3 +1,4 @@
 pub mod JobOf
 pub mod Opened
+pub mod Runs
 pub mod StatedResult

@@ -1,99 +1,73 @@
--- The stated result of a run: which note it ends with, by what the main file reads, and what it leaves.
-use Rattle.std.specs.Prelude.{◌≡◌, ◌⊎◌, ℕ, ◌<◌, ◌≤◌, List, Option, None, Some, length}
-use Rattle.base_core.specs.CrashImages.{Image}
-use Rattle.base_core.specs.OrderedMap.{Map, put}
-use Rattle.base_core.specs.declared.limits.TheConstants.{FLAT_LIMIT}
-use Rattle.base_core.specs.declared.flaw.Flaw.{Flaw}
+-- The stated result of an action: its note, its output and the map that it leaves, by what the main file reads.
+use Rattle.std.specs.Prelude.{◌≡◌, ◌⊎◌, ℕ, Bool, true, nat_lt, List, [], ◌∷◌, ◌++◌, Option, None, Some, is_some, length, codes, decimal, if◌then◌else◌}
+use Rattle.base_core.specs.CrashImages.{Image, DiskState}
+use Rattle.base_core.specs.HostCalls.{told_with}
+use Rattle.base_core.specs.Notes.{flaw_text}
+use Rattle.base_core.specs.OrderedMap.{Map, put, without, value_at}
+use Rattle.base_core.specs.Transactions.{Transaction, Store, Remove, after_transactions}
+use Rattle.base_core.specs.declared.action.Action.{Action}
+use Rattle.base_core.specs.declared.action.Action.TheVariants.{Get, Set, Delete, Consistent}
+use Rattle.base_core.specs.declared.flaw.Damage.{Damage}
+use Rattle.base_core.specs.declared.limits.TheConstants.{KEY_LIMIT, VALUE_LIMIT, FLAT_LIMIT}
 use Rattle.base_core.specs.declared.note.Note.{Note}
-use Rattle.base_core.specs.declared.note.Note.TheVariants.{Done, Usage, BadLine, Absent, Limit, DeviceFault, Memory, Damaged}
+use Rattle.base_core.specs.declared.note.Note.TheVariants.{Done, Answer, Usage, BadLine, Absent, Limit, DeviceFault, Memory, Damaged}
 use Rattle.base_core.specs.declared.note.LimitName.TheVariants.{Key, Value, File}
 use Rattle.base_core.specs.declared.note.Device.TheVariants.{Host}
-use Rattle.base_core.specs.declared.action.Backend.TheVariants.{Flat}
-use Rattle.base_core.specs.declared.action.Action.TheVariants.{Set}
 use Rattle.db_core.specs.Opening.{Holds, IsTooBig}
-use Rattle.db_core.specs.declared.fault.DbFault.{DbFault}
-use Rattle.db_core.specs.declared.fault.DbFault.TheVariants.{KeyEmpty, KeyTooLong, ValueTooLong, Full, NoMemory}
 use Rattle.db_core.specs.declared.fault.OpenFault.{OpenFault}
 use Rattle.db_core.specs.declared.fault.OpenFault.TheVariants.{Absent as NoFile, TooBig, NoMemory as NoRoom, DiskFault as NoDisk, Damaged as Flawed}
+use Rattle.db_tool.specs.Acting.{told_by, note_by, is_empty, IsEnd, IsFault}
 use Rattle.flat_db.specs.FlatText.{IsFlawedAt, canonical_text}
 use Rattle.flat_db.specs.Opening.{flat_opens}
-use Rattle.cyr_top.specs.declared.jobs.Job.{Job}
-use Rattle.cyr_top.specs.declared.jobs.Job.TheVariants.{Dbtool}
 
--- The file opens to a map, the canonical text of this map with the pair put is within the limit, and the other image opens to that map.
-pub record IsSet (key value : List ℕ) (main after : Image) : Type 0 where
-  pub map : Map
-  pub before : flat_opens main map
-  pub fits : length (canonical_text (put map key value)) ≤ FLAT_LIMIT
-  pub done : flat_opens after (put map key value)
+-- ---- what the main file stands for
 
--- the file opens to a map whose canonical text would have so many bytes with the pair put, more than it may
-pub record IsFull (key value : List ℕ) (main : Image) (size : ℕ) : Type 0 where
-  pub map : Map
-  pub before : flat_opens main map
-  pub counted : size ≡ length (canonical_text (put map key value))
-  pub over : FLAT_LIMIT < size
+-- The map from which an action starts: the one to which the main file opens, or the empty one where it is absent and is to be made.
+abbrev pub StartsFrom : Bool → Image → Map → Type 0
+StartsFrom make main m = flat_opens main m ⊎ ((make ≡ true) × (main ≡ None) × (m ≡ []))
 
--- the file is within the limit, and has its first flaw here
-abbrev pub IsDamaged : Image → ℕ → Flaw → Type 0
-IsDamaged main at check = Holds FLAT_LIMIT (λ text. IsFlawedAt text (record { at = at; check = check })) main
+-- why the main file does not open
+abbrev pub IsUnopened : Bool → Image → OpenFault → Type 0
+IsUnopened make main NoFile = (main ≡ None) × (make ≡ true → ⊥)
+IsUnopened make main (TooBig size) = IsTooBig FLAT_LIMIT main size
+IsUnopened make main (Flawed damage) = Holds FLAT_LIMIT (λ text. IsFlawedAt text damage) main
+IsUnopened make main fault = ⊥
 
--- the image opens to the map of the file with the pair put, and to the map of the file
-abbrev pub SetsPair : List ℕ → List ℕ → Option Image → Image → Type 0
-SetsPair key value reads image = (main : Image) × (reads ≡ Some main) × (m : Map) × flat_opens main m × flat_opens image (put m key value)
+-- ---- how an action ends
 
-abbrev pub KeepsMap : Option Image → Image → Type 0
-KeepsMap reads image = (main : Image) × (reads ≡ Some main) × (m : Map) × flat_opens main m × flat_opens image m
+-- a file of so many bytes passes the limit
+abbrev pub size_refusal : Map → Option Note
+size_refusal m = if nat_lt FLAT_LIMIT (length (canonical_text m)) then Some (Limit File (length (canonical_text m))) else None
 
--- what a job leaves that is done, and what a stopped one may leave besides what could be left before
-abbrev pub LeftByJob : Option Job → Option Image → Image → Type 0
-LeftByJob (Some (Dbtool make file Flat (Set key value))) reads image = SetsPair key value reads image
-LeftByJob job reads image = ⊥
+-- what a map and an action ask for in place of its end, if anything: the key is empty, or the key, the value or the file that would come passes its limit
+abbrev pub refusal_over : Map → Action → Option Note
+refusal_over m (Get key) = if is_empty key then Some (BadLine 1) else None
+refusal_over m (Set key value) =
+    if is_empty key then Some (BadLine 1)
+    else (if nat_lt KEY_LIMIT (length key) then Some (Limit Key (length key))
+    else (if nat_lt VALUE_LIMIT (length value) then Some (Limit Value (length value))
+    else size_refusal (put m key value)))
+refusal_over m (Delete key) =
+    if is_empty key then Some (BadLine 1)
+    else (if is_some (value_at m key) then size_refusal (without m key) else None)
+refusal_over m action = None
 
-abbrev pub MayBeLeft : Option Job → Option Image → Image → Type 0
-MayBeLeft job reads image = KeepsMap reads image ⊎ LeftByJob job reads image
+-- what an action prints over a map
+abbrev pub output_over : Map → Action → List ℕ
+output_over m Consistent = codes "consistent\n"
+output_over m action = told_by action m
 
--- Where each note comes when a pair is set, and what the file then reads. Want of memory is free, and a device fault has its cause in the count.
-abbrev pub IsStated : List ℕ → List ℕ → Image → Note → Option Image → Type 0
-IsStated key value main Done reads = (after : Image) × (reads ≡ Some after) × IsSet key value main after
-IsStated key value main Absent reads = main ≡ None
-IsStated key value main (Limit File number) reads = IsTooBig FLAT_LIMIT main number ⊎ IsFull key value main number
-IsStated key value main (Damaged at check) reads = IsDamaged main at check
-IsStated key value main (DeviceFault Host) reads = Unit {0}
-IsStated key value main Memory reads = Unit {0}
-IsStated key value main note reads = ⊥
+-- the one transaction that an action makes, if any
+abbrev pub transactions_of : Action → List Transaction
+transactions_of (Set key value) = (Store key value ∷ []) ∷ []
+transactions_of (Delete key) = (Remove key ∷ []) ∷ []
+transactions_of action = []
 
--- What the main file reads asks for this note.
-abbrev pub IsCause : List ℕ → List ℕ → Image → Note → Type 0
-IsCause key value main Done = (m : Map) × flat_opens main m × (length (canonical_text (put m key value)) ≤ FLAT_LIMIT)
-IsCause key value main Absent = main ≡ None
-IsCause key value main (Limit File number) = IsTooBig FLAT_LIMIT main number ⊎ IsFull key value main number
-IsCause key value main (Damaged at check) = IsDamaged main at check
-IsCause key value main note = ⊥
+-- the map that it leaves
+abbrev pub map_left : Map → Action → Map
+map_left m action = after_transactions m (transactions_of action)
 
--- the host failed
-abbrev pub IsFault : Note → Type 0
-IsFault (DeviceFault Host) = Unit {0}
-IsFault note = ⊥
-
--- The notes of the jobs that are built. Of the devices only the host is used.
-abbrev pub IsBuilt : Note → Type 0
-IsBuilt Done = Unit {0}
-IsBuilt Usage = Unit {0}
-IsBuilt Absent = Unit {0}
-IsBuilt (Limit File _) = Unit {0}
-IsBuilt (DeviceFault Host) = Unit {0}
-IsBuilt Memory = Unit {0}
-IsBuilt (Damaged _ _) = Unit {0}
-IsBuilt note = ⊥
-
--- the run was refused, and changed no map
-abbrev pub IsRefused : Note → Type 0
-IsRefused Done = ⊥
-IsRefused (DeviceFault device) = ⊥
-IsRefused note = Unit {0}
-
--- the note of each refusal of an opening, and of a change
+-- the note of an opening that is refused
 abbrev pub opening_note : OpenFault → Note
 opening_note NoFile = Absent
 opening_note (TooBig size) = Limit File size
@@ -101,10 +75,64 @@ opening_note NoRoom = Memory
 opening_note NoDisk = DeviceFault Host
 opening_note (Flawed damage) = Damaged damage.at damage.check
 
-abbrev pub change_note : DbFault → Note
-change_note KeyEmpty = BadLine 1
-change_note (KeyTooLong length) = Limit Key length
-change_note (ValueTooLong length) = Limit Value length
-change_note (Full size) = Limit File size
-change_note NoMemory = Memory
-change_note fault = DeviceFault Host
+-- A check tells the flaw of a file in a line of its own, and every other action refuses the file.
+abbrev pub unopened_note : Action → OpenFault → Note
+unopened_note Consistent (Flawed damage) = Answer
+unopened_note action fault = opening_note fault
+
+abbrev pub flaw_line : Damage → List ℕ
+flaw_line damage = codes "not consistent: " ++ flaw_text damage.check ++ codes " at " ++ decimal damage.at ++ codes "\n"
+
+abbrev pub unopened_output : Action → OpenFault → List ℕ
+unopened_output Consistent (Flawed damage) = flaw_line damage
+unopened_output action fault = []
+
+-- The stated note and output of an action, by what the main file reads.
+pub data Shown (make : Bool) (action : Action) (main : Image) (note : Note) (output : List ℕ) : Type 0 where
+  ends : (m : Map) → StartsFrom make main m → refusal_over m action ≡ None → note ≡ note_by action m → output ≡ output_over m action → Shown make action main note output
+  refused : (m : Map) → StartsFrom make main m → refusal_over m action ≡ Some note → output ≡ [] → Shown make action main note output
+  unopened : (fault : OpenFault) → IsUnopened make main fault → note ≡ unopened_note action fault → output ≡ unopened_output action fault → Shown make action main note output
+
+-- some first bytes of the output were told
+abbrev pub TellsFirst : Option (List ℕ) → Option (List ℕ) → List ℕ → Type 0
+TellsFirst old new output = (first rest : List ℕ) × (first ++ rest ≡ output) × (new ≡ told_with old first)
+
+-- ---- what is left
+
+-- the image opens to the map from which the action starts
+abbrev pub KeepsMap : Bool → Option Image → Image → Type 0
+KeepsMap make reads c = (main : Image) × (reads ≡ Some main) × (m : Map) × StartsFrom make main m × flat_opens c m
+
+-- or to the map after its transaction
+abbrev pub ChangesMap : Bool → Action → Option Image → Image → Type 0
+ChangesMap make action reads c = (main : Image) × (reads ≡ Some main) × (m : Map) × StartsFrom make main m × flat_opens c (map_left m action)
+
+-- What a crash may leave once an action is done. A check changes nothing but that it makes an absent file.
+abbrev pub IsLeft : Bool → Action → DiskState → Image → Type 0
+IsLeft make Consistent start c = start.leaves c ⊎ KeepsMap make start.reads c
+IsLeft make action start c = ChangesMap make action start.reads c
+
+-- ---- the notes
+
+-- the host failed, or memory ran out
+abbrev pub IsCutOff : Note → Type 0
+IsCutOff note = IsFault note ⊎ (note ≡ Memory)
+
+-- the run was refused, and changed no map
+abbrev pub IsRefused : Note → Type 0
+IsRefused note = (IsEnd note → ⊥) × (IsFault note → ⊥)
+
+-- The notes of the actions that are built. Of the devices only the host is used.
+abbrev pub IsBuilt : Note → Type 0
+IsBuilt Done = Unit {0}
+IsBuilt Answer = Unit {0}
+IsBuilt Usage = Unit {0}
+IsBuilt (BadLine _) = Unit {0}
+IsBuilt Absent = Unit {0}
+IsBuilt (Limit Key _) = Unit {0}
+IsBuilt (Limit Value _) = Unit {0}
+IsBuilt (Limit File _) = Unit {0}
+IsBuilt (DeviceFault Host) = Unit {0}
+IsBuilt Memory = Unit {0}
+IsBuilt (Damaged _ _) = Unit {0}
+IsBuilt note = ⊥

@@ -1,6 +1,7 @@
 //! The top call: what the words of a command line do.
 #![tactic(auto)]
 
+mod actions;
 mod jobs;
 mod running;
 mod words;

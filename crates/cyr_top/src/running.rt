@@ -1,133 +1,59 @@
 // The top call: words, the host's files and streams in, the status and its note out.
-ghost use Rattle.std.specs.Prelude.{◌≡◌, ◌⊎◌, ◌↔◌, Some, ℕ, List, None, map, string_bytes};
+ghost use Rattle.std.specs.Prelude.{◌≡◌, ◌⊎◌, ◌↔◌, ℕ, Bool, true, List, Some, None, map, string_bytes};
 ghost use Rattle.base_core.specs.Causes.{Rose};
 ghost use Rattle.base_core.specs.CrashImages.{Image, LeavesOnly, SameDisk};
 ghost use Rattle.base_core.specs.HostCalls.{told_with};
+ghost use Rattle.base_core.specs.declared.action.Action.{Action as Act};
+ghost use Rattle.base_core.specs.declared.action.Backend.TheVariants.{Flat};
 ghost use Rattle.base_core.specs.declared.note.Note.{Note};
 ghost use Rattle.base_core.specs.Notes.{note_text, status_of};
 ghost use Rattle.base_core.specs.OrderedMap.{Map};
-ghost use Rattle.base_core.specs.Transactions.{after_transactions};
-ghost use Rattle.cyr_top.specs.JobOf.{job_of, set_job, CanSet, CanDo};
-ghost use Rattle.cyr_top.specs.StatedResult.{opening_note, change_note, IsStated, IsCause, IsFault, IsBuilt, IsRefused, SetsPair, KeepsMap, LeftByJob, MayBeLeft};
-ghost use Rattle.cyr_top.specs.Opened.{EachOpens, KeepsPrefix, backend_of, transactions_of};
+ghost use Rattle.cyr_top.specs.JobOf.{job_of, Asks, IsBuiltJob};
+ghost use Rattle.cyr_top.specs.declared.jobs.Job.TheVariants.{Dbtool};
+ghost use Rattle.cyr_top.specs.Opened.{EachOpens, StartsAt, KeepsPrefix, IsNotMade};
+ghost use Rattle.cyr_top.specs.Runs.{Runs, LeavesThen};
+ghost use Rattle.cyr_top.specs.StatedResult.{Shown, TellsFirst, IsUnopened, IsCutOff, IsRefused, IsBuilt, IsLeft, KeepsMap, ChangesMap, map_left};
+ghost use Rattle.db_core.specs.declared.fault.OpenFault.{OpenFault};
+ghost use Rattle.db_tool.specs.Acting.{IsEnd, IsFault};
+ghost use Rattle.flat_db.specs.Opening.{flat_opens};
+ghost use Rattle.rand_core.specs.Stream.{next_u32};
 
+use crate::actions::do_made;
 use crate::{Job, WordFault, job};
-use base_core::{Action, Backend, Bytes, Damage, Device, Host, LimitName, Note, Outcome};
-use db_core::{Change, DbFault, OpenFault, run_changes};
-use flat_db::open_db;
+use base_core::{Host, Note, Outcome};
+use rand_core::Rng;
 use std::alloc::Global;
 
-// The note of a database that was not opened.
-fn note_of_opening(fault: OpenFault) -> Note
-    ensures { result ≡ opening_note fault }
-{
-    match fault {
-        OpenFault::Absent => Note::Absent,
-        OpenFault::TooBig { size } => Note::Limit {
-            limit: LimitName::File,
-            number: size,
-        },
-        OpenFault::NoMemory => Note::Memory,
-        OpenFault::DiskFault => Note::DeviceFault {
-            device: Device::Host,
-        },
-        OpenFault::Damaged(Damage { at, check }) => Note::Damaged { at, check },
-    }
-}
-
-// The note of a change that was refused. In a broken session an earlier call met a fault of the host.
-fn note_of_change(fault: DbFault) -> Note
-    ensures { result ≡ change_note fault }
-{
-    let (limit, number) = match fault {
-        DbFault::KeyTooLong { length } => (LimitName::Key, length),
-        DbFault::ValueTooLong { length } => (LimitName::Value, length),
-        DbFault::Full { size } => (LimitName::File, size),
-        DbFault::KeyEmpty => return Note::BadLine { line: 1 },
-        DbFault::NoMemory => return Note::Memory,
-        DbFault::Broken | DbFault::DiskFault => {
-            return Note::DeviceFault {
-                device: Device::Host,
-            };
-        }
-    };
-    Note::Limit { limit, number }
-}
-
-// Sets the pair in the host's main file, which is flat: one transaction.
-fn set_flat<H: Host>(alloc: Global, key: Bytes, value: Bytes, host: &mut H) -> Note
-    requires { CanSet key value }
-    ensures stated { (main : Image) → (H.state host.old).reads ≡ Some main → IsStated key value main result (H.state host.new).reads }
-    ensures done { result ≡ Note.Done → (c : Image) → (H.state host.new).leaves c → SetsPair key value (H.state host.old).reads c }
-    ensures refused { IsRefused result → LeavesOnly (H.state host.old) (H.state host.new) (λ c n. (n ≡ (H.state host.old).mark) × ((H.state host.old).leaves c ⊎ KeepsMap (H.state host.old).reads c)) }
-    ensures any_moment { LeavesOnly (H.state host.old) (H.state host.new)
-        (λ c n. (n ≡ (H.state host.old).mark) × ((H.state host.old).leaves c ⊎ (KeepsMap (H.state host.old).reads c ⊎ SetsPair key value (H.state host.old).reads c))) }
-    ensures cause { IsFault result → Rose (H.state host.old).faults (H.state host.new).faults }
-    ensures no_fault { (IsFault result → ⊥) → (H.state host.new).faults ≡ (H.state host.old).faults }
-    ensures no_usage { result ≡ Note.Usage → ⊥ }
-    ensures built { IsBuilt result }
-    ensures rest { H.disk_rest host.old host.new }
-{
-    let mut db = match open_db(alloc, host) {
-        Ok(db) => db,
-        Err(fault) => return note_of_opening(fault),
-    };
-    let changes = [Change::Put {
-        word: 0,
-        key,
-        value,
-    }];
-    match run_changes(&mut db, host, &changes) {
-        Ok(()) => Note::Done,
-        Err(fault) => note_of_change(fault),
-    }
-}
-
 // Does a job that words stand for.
-fn do_job<H: Host>(alloc: Global, job: Job, host: &mut H) -> Note
-    requires { CanDo job }
-    ensures stated { (file key value : List ℕ) → job ≡ set_job file key value
-        → (main : Image) → (H.state host.old).reads ≡ Some main → IsStated key value main result (H.state host.new).reads }
-    ensures done { result ≡ Note.Done → (c : Image) → (H.state host.new).leaves c → LeftByJob (Some job) (H.state host.old).reads c }
-    ensures refused { IsRefused result → LeavesOnly (H.state host.old) (H.state host.new) (λ c n. (n ≡ (H.state host.old).mark) × ((H.state host.old).leaves c ⊎ KeepsMap (H.state host.old).reads c)) }
-    ensures any_moment { LeavesOnly (H.state host.old) (H.state host.new)
-        (λ c n. (n ≡ (H.state host.old).mark) × ((H.state host.old).leaves c ⊎ MayBeLeft (Some job) (H.state host.old).reads c)) }
-    ensures cause { IsFault result → Rose (H.state host.old).faults (H.state host.new).faults }
-    ensures no_fault { (IsFault result → ⊥) → (H.state host.new).faults ≡ (H.state host.old).faults }
-    ensures no_usage { result ≡ Note.Usage → ⊥ }
-    ensures built { IsBuilt result }
-    ensures rest { H.disk_rest host.old host.new }
+fn do_job<H: Host, R: Rng>(alloc: Global, job: &Job, host: &mut H, rng: &mut R) -> Note
+    requires { IsBuiltJob job.now }
+    ensures runs { (make : Bool) (file : List ℕ) (action : Act) → job.now ≡ Dbtool make file Flat action → Runs make action (H.streams host.old) (H.streams host.new) (H.state host.old) (H.state host.new) result }
+    ensures drawn { (R.stream rng.new ≡ R.stream rng.old) ⊎ (R.stream rng.new ≡ (next_u32 (R.stream rng.old)).1) }
+    ensures rest { H.host_rest host.old host.new }
 {
-    let Job::Dbtool {
-        backend,
-        action,
-        ..
-    } = job;
-    match action {
-        Action::Set { key, value } if backend == Backend::Flat => {
-            set_flat(alloc, key, value, host)
-        }
-        _ => unreachable!(),
-    }
+    let Job::Dbtool { make, action, .. } = job;
+    do_made(alloc, *make, action, host, rng)
 }
 
 // Does what the words ask for.
-fn perform<H: Host>(alloc: Global, words: &[String], host: &mut H) -> Note
+fn perform<H: Host, R: Rng>(
+    alloc: Global,
+    words: &[String],
+    host: &mut H,
+    rng: &mut R,
+) -> Note
     ensures usage { (result ≡ Note.Usage) ↔ (job_of (map string_bytes words.now) ≡ None) }
-    ensures stated { (file key value : List ℕ) → job_of (map string_bytes words.now) ≡ Some (set_job file key value)
-        → (main : Image) → (H.state host.old).reads ≡ Some main → IsStated key value main result (H.state host.new).reads }
     ensures untouched { result ≡ Note.Usage → host.new ≡ host.old }
-    ensures done { result ≡ Note.Done → (c : Image) → (H.state host.new).leaves c → LeftByJob (job_of (map string_bytes words.now)) (H.state host.old).reads c }
-    ensures refused { IsRefused result → LeavesOnly (H.state host.old) (H.state host.new) (λ c n. (n ≡ (H.state host.old).mark) × ((H.state host.old).leaves c ⊎ KeepsMap (H.state host.old).reads c)) }
-    ensures any_moment { LeavesOnly (H.state host.old) (H.state host.new)
-        (λ c n. (n ≡ (H.state host.old).mark) × ((H.state host.old).leaves c ⊎ MayBeLeft (job_of (map string_bytes words.now)) (H.state host.old).reads c)) }
-    ensures cause { IsFault result → Rose (H.state host.old).faults (H.state host.new).faults }
-    ensures no_fault { (IsFault result → ⊥) → (H.state host.new).faults ≡ (H.state host.old).faults }
+    ensures runs { (make : Bool) (action : Act) → Asks (map string_bytes words.now) make action → Runs make action (H.streams host.old) (H.streams host.new) (H.state host.old) (H.state host.new) result }
     ensures built { IsBuilt result }
-    ensures rest { H.disk_rest host.old host.new }
+    ensures rose { IsFault result → Rose (H.state host.old).faults (H.state host.new).faults }
+    ensures stood { (IsFault result → ⊥) → (H.state host.new).faults ≡ (H.state host.old).faults }
+    ensures warned { (H.streams host.new).warned ≡ (H.streams host.old).warned }
+    ensures drawn { (R.stream rng.new ≡ R.stream rng.old) ⊎ (R.stream rng.new ≡ (next_u32 (R.stream rng.old)).1) }
+    ensures rest { H.host_rest host.old host.new }
 {
     match job(alloc, words) {
-        Ok(job) => do_job(alloc, job, host),
+        Ok(job) => do_job(alloc, &job, host, rng),
         Err(WordFault::Usage) => Note::Usage,
         Err(WordFault::NoMemory) => Note::Memory,
     }
@@ -135,53 +61,67 @@ fn perform<H: Host>(alloc: Global, words: &[String], host: &mut H) -> Note
 
 /// Does all that the program does: what the words ask for, over the host's files and streams.
 ///
-/// `words` are the command line without the program's own name. The note's text goes to standard error.
-pub fn run<H: Host>(alloc: Global, words: &[String], host: &mut H) -> Outcome
+/// `words` are the command line without the program's own name. The note's text goes to standard error. At most one
+/// random word is drawn. `docs/guarantees.md` says what each clause means for a file.
+pub fn run<H: Host, R: Rng>(
+    alloc: Global,
+    words: &[String],
+    host: &mut H,
+    rng: &mut R,
+) -> Outcome
     ensures status { result.status ≡ status_of result.note }
 
     // The words give no job: exactly then the run answers so, and it changes nothing but standard error.
     ensures usage { (result.note ≡ Note.Usage) ↔ (job_of (map string_bytes words.now) ≡ None) }
-    ensures untouched { result.note ≡ Note.Usage → SameDisk (H.state host.old) (H.state host.new) }
+    ensures untouched { result.note ≡ Note.Usage → SameDisk (H.state host.old) (H.state host.new) × ((H.streams host.new).told ≡ (H.streams host.old).told) }
 
-    // Each other note comes where it is stated, by what the main file reads; with `Done` it opens to the map with the pair put.
-    ensures stated { (file key value : List ℕ) → job_of (map string_bytes words.now) ≡ Some (set_job file key value)
-        → (main : Image) → (H.state host.old).reads ≡ Some main → IsStated key value main result.note (H.state host.new).reads }
-    ensures exactly { (file key value : List ℕ) → job_of (map string_bytes words.now) ≡ Some (set_job file key value)
-        → (main : Image) → (H.state host.old).reads ≡ Some main → (wanted : Note) → IsCause key value main wanted
-        → (result.note ≡ wanted) ⊎ (IsFault result.note ⊎ (result.note ≡ Note.Memory)) }
+    // Note and output are the stated ones, by what the main file reads, unless the host failed or memory ran out. What is stated is stated once.
+    ensures stated { (make : Bool) (action : Act) → Asks (map string_bytes words.now) make action → (main : Image) → (H.state host.old).reads ≡ Some main
+        → IsCutOff result.note ⊎ ((output : List ℕ) × Shown make action main result.note output × ((H.streams host.new).told ≡ told_with (H.streams host.old).told output)) }
+    ensures exactly { (make : Bool) (action : Act) → Asks (map string_bytes words.now) make action → (main : Image) → (H.state host.old).reads ≡ Some main
+        → (wanted : Note) (output : List ℕ) → Shown make action main wanted output
+        → IsCutOff result.note ⊎ ((result.note ≡ wanted) × ((H.streams host.new).told ≡ told_with (H.streams host.old).told output)) }
 
-    // After `Done` a crash leaves nothing but a file of the map with the pair put.
-    ensures done { result.note ≡ Note.Done → (c : Image) → (H.state host.new).leaves c → LeftByJob (job_of (map string_bytes words.now)) (H.state host.old).reads c }
+    // However it ends, some first bytes of the stated output were told, and nothing else.
+    ensures told { (make : Bool) (action : Act) → Asks (map string_bytes words.now) make action → (main : Image) → (H.state host.old).reads ≡ Some main
+        → (wanted : Note) (output : List ℕ) → Shown make action main wanted output → TellsFirst (H.streams host.old).told (H.streams host.new).told output }
 
-    // A refusal that is no device fault leaves the file's map as it was, at every moment.
-    ensures refused { IsRefused result.note → LeavesOnly (H.state host.old) (H.state host.new) (λ c n. (n ≡ (H.state host.old).mark) × ((H.state host.old).leaves c ⊎ KeepsMap (H.state host.old).reads c)) }
+    // After `Done` a crash leaves nothing but a file of the map that the action leaves.
+    ensures done { (make : Bool) (action : Act) → Asks (map string_bytes words.now) make action → result.note ≡ Note.Done → (c : Image) → (H.state host.new).leaves c → IsLeft make action (H.state host.old) c }
 
-    // Wherever the run stops, the file is one that could be left before, or opens to the map that it read or to this map with the pair put.
-    ensures any_moment { LeavesOnly (H.state host.old) (H.state host.new)
-        (λ c n. (n ≡ (H.state host.old).mark) × ((H.state host.old).leaves c ⊎ MayBeLeft (job_of (map string_bytes words.now)) (H.state host.old).reads c)) }
+    // A refusal that is no device fault leaves the file's map as it was, at every moment; one that is not opened leaves the file as it was.
+    ensures refused { (make : Bool) (action : Act) → Asks (map string_bytes words.now) make action → IsRefused result.note
+        → LeavesThen (H.state host.old) (H.state host.new) (λ c. (H.state host.old).leaves c ⊎ KeepsMap make (H.state host.old).reads c) }
+    ensures unopened { (make : Bool) (action : Act) → Asks (map string_bytes words.now) make action → (main : Image) → (H.state host.old).reads ≡ Some main
+        → (fault : OpenFault) → IsUnopened make main fault → LeavesThen (H.state host.old) (H.state host.new) (H.state host.old).leaves }
 
-    // The same in words of maps and transactions: where each image at the start opens to one map, each that is left opens to the
-    // map after a prefix of the job's transactions that holds every acknowledged one; after `Done` to that after all of them.
-    ensures crash { (job : Job) → (m : Map) → job_of (map string_bytes words.now) ≡ Some job → EachOpens (backend_of job) (H.state host.old) m
-        → LeavesOnly (H.state host.old) (H.state host.new) (KeepsPrefix job m (H.state host.old).mark) }
-    ensures committed { (job : Job) → (m : Map) → job_of (map string_bytes words.now) ≡ Some job → EachOpens (backend_of job) (H.state host.old) m
-        → result.note ≡ Note.Done → EachOpens (backend_of job) (H.state host.new) (after_transactions m (transactions_of job)) }
-    ensures uncommitted { (backend : Backend) → (m : Map) → EachOpens backend (H.state host.old) m → IsRefused result.note → EachOpens backend (H.state host.new) m }
+    // Wherever the run stops, the file is one that could be left before, or opens to the map from which the action starts or to that after it.
+    ensures any_moment { (make : Bool) (action : Act) → Asks (map string_bytes words.now) make action
+        → LeavesThen (H.state host.old) (H.state host.new) (λ c. (H.state host.old).leaves c ⊎ (KeepsMap make (H.state host.old).reads c ⊎ ChangesMap make action (H.state host.old).reads c)) }
 
-    // There is no other note than those of the jobs that are built, and no other device than the host.
+    // The same in words of maps and transactions: where the run starts from one map, each image that is left opens to the map after
+    // a prefix of the action's transactions that holds every acknowledged one, or is the absent file that is to be made, before a
+    // byte was told. At the end it opens to the map after all of them, and after a refusal to the map at the start.
+    ensures crash { (make : Bool) (action : Act) → Asks (map string_bytes words.now) make action → (m : Map) → StartsAt make (H.state host.old) m
+        → LeavesOnly (H.state host.old) (H.state host.new) (λ c n. KeepsPrefix action m (H.state host.old).mark c n ⊎ IsNotMade make (H.state host.old).mark c n) }
+    ensures committed { (make : Bool) (action : Act) → Asks (map string_bytes words.now) make action → (m : Map) → StartsAt make (H.state host.old) m
+        → IsEnd result.note → EachOpens (H.state host.new) (map_left m action) }
+    ensures uncommitted { (make : Bool) (action : Act) → Asks (map string_bytes words.now) make action → (m : Map) → StartsAt make (H.state host.old) m
+        → IsRefused result.note → (c : Image) → (H.state host.new).leaves c → flat_opens c m ⊎ ((make ≡ true) × (c ≡ None) × (result.note ≡ Note.Memory)) }
+
+    // There is no other note than those of the actions that are built, and no other device than the host.
     ensures built { IsBuilt result.note }
 
     // A device fault is answered exactly where the count rose, or stands at its last value.
     ensures cause { IsFault result.note → Rose (H.state host.old).faults (H.state host.new).faults }
     ensures no_fault { (IsFault result.note → ⊥) → (H.state host.new).faults ≡ (H.state host.old).faults }
 
-    // Nothing is printed but the note's text, on standard error.
-    ensures told { (H.streams host.new).told ≡ (H.streams host.old).told }
-    ensures tell_faults { (H.streams host.new).tell_faults ≡ (H.streams host.old).tell_faults }
+    // Standard error gets the note's text.
     ensures warned { ((H.streams host.new).warned ≡ told_with (H.streams host.old).warned (note_text result.note)) ⊎ ((H.streams host.new).warned ≡ None) }
+    ensures drawn { (R.stream rng.new ≡ R.stream rng.old) ⊎ (R.stream rng.new ≡ (next_u32 (R.stream rng.old)).1) }
     ensures rest { H.host_rest host.old host.new }
 {
-    let note = perform(alloc, words, host);
+    let note = perform(alloc, words, host, rng);
     host.warn(note.text().as_str().as_bytes());
     Outcome {
         status: note.status(),

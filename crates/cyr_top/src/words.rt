@@ -1,9 +1,11 @@
-// The words of a command line, read by hand: flags come first, and none is built yet.
-ghost use Rattle.std.specs.Prelude.{◌≡◌, ◌↔◌, IfOk, IfSome, IfNone, None, Some, map, string_bytes};
-ghost use Rattle.cyr_top.specs.JobOf.{job_of, is_operand, is_key, is_value, set_job, asks_set, CanSet, CanDo, main_path};
+// The words of a command line, read by hand: the flags come first.
+ghost use Rattle.std.specs.Prelude.{◌≡◌, ◌↔◌, ◌∷◌, IfOk, None, Some, map, string_bytes};
+ghost use Rattle.std.specs.List.{list_all};
+ghost use Rattle.cyr_top.specs.JobOf.{job_of, database_job, action_of, is_operand, CanDo, IsBuiltJob, main_path};
+ghost use Rattle.cyr_top.specs.declared.jobs.WordFault.TheVariants.{Usage};
 
 use crate::{Job, Paths, WordFault};
-use base_core::{Action, Backend, Bytes, KEY_LIMIT, NoMemory, Text, VALUE_LIMIT};
+use base_core::{Action, Backend, Bytes, NoMemory, Text};
 use std::alloc::Global;
 
 fn may_be_operand(word: &str) -> bool
@@ -12,75 +14,79 @@ fn may_be_operand(word: &str) -> bool
     !word.as_bytes().starts_with(b"-")
 }
 
-fn may_be_key(word: &str) -> bool
-    ensures { result ≡ is_key word.now }
+fn may_be_operands(words: &[String]) -> bool
+    ensures { result ≡ list_all is_operand (map string_bytes words.now) }
 {
-    !word.is_empty() && word.len() as u64 <= KEY_LIMIT
+    words.iter().all(|word| may_be_operand(word.as_str()))
 }
 
-fn may_be_value(word: &str) -> bool
-    ensures { result ≡ is_value word.now }
+fn bytes_of(alloc: Global, word: &str) -> Result<Bytes, NoMemory>
+    ensures { IfOk result (λ bytes. bytes ≡ word.now) }
 {
-    word.len() as u64 <= VALUE_LIMIT
+    Bytes::of(alloc, word.as_bytes())
 }
 
-// Whether the words are `cyr_dbtool FILE flat set KEY VALUE`, with a key and a value of sizes that may be stored.
-fn asks_to_set(tool: &str, file: &str, backend: &str, action: &str, key: &str, value: &str) -> bool
-    ensures { result ≡ asks_set tool.now file.now backend.now action.now key.now value.now }
+// The action of a name and the words behind it.
+fn action(alloc: Global, name: &str, words: &[String]) -> Result<Action, WordFault>
+    ensures action { IfOk result (λ action. action_of name.now (map string_bytes words.now) ≡ Some action) }
+    ensures built { IfOk result CanDo }
+    ensures usage { (result ≡ Err Usage) ↔ (action_of name.now (map string_bytes words.now) ≡ None) }
 {
-    tool == "cyr_dbtool"
-        && backend == "flat"
-        && action == "set"
-        && may_be_operand(file)
-        && may_be_operand(key)
-        && may_be_operand(value)
-        && may_be_key(key)
-        && may_be_value(value)
-}
-
-// The operands of `cyr_dbtool FILE flat set KEY VALUE`.
-#[derive(Clone, Copy)]
-struct SetWords<'a> {
-    file: &'a str,
-    key: &'a str,
-    value: &'a str,
-}
-
-fn set_words(words: &[String]) -> Option<SetWords<'_>>
-    ensures some { IfSome result (λ s. (job_of (map string_bytes words.now) ≡ Some (set_job s.file.now s.key.now s.value.now)) × CanSet s.key.now s.value.now) }
-    ensures none { IfNone result (job_of (map string_bytes words.now) ≡ None) }
-{
-    if words.len() != 6 {
-        return None;
+    match (name, words) {
+        ("show", []) => Ok(Action::Show {
+            prefix: bytes_of(alloc, "")?,
+        }),
+        ("show", [prefix]) => Ok(Action::Show {
+            prefix: bytes_of(alloc, prefix.as_str())?,
+        }),
+        ("get", [key]) => Ok(Action::Get {
+            key: bytes_of(alloc, key.as_str())?,
+        }),
+        ("set", [key, value]) => Ok(Action::Set {
+            key: bytes_of(alloc, key.as_str())?,
+            value: bytes_of(alloc, value.as_str())?,
+        }),
+        ("delete", [key]) => Ok(Action::Delete {
+            key: bytes_of(alloc, key.as_str())?,
+        }),
+        ("consistent", []) => Ok(Action::Consistent),
+        _ => Err(WordFault::Usage),
     }
-    let (tool, file) = (words[0].as_str(), words[1].as_str());
-    let (backend, action) = (words[2].as_str(), words[3].as_str());
-    let (key, value) = (words[4].as_str(), words[5].as_str());
-    if asks_to_set(tool, file, backend, action, key, value) {
-        Some(SetWords { file, key, value })
-    } else {
-        None
+}
+
+// The job of `FILE BACKEND ACTION ..`; of the backends only `flat` is built.
+fn dbtool(alloc: Global, make: bool, words: &[String]) -> Result<Job, WordFault>
+    ensures job { IfOk result (λ job. database_job make (map string_bytes words.now) ≡ Some job) }
+    ensures built { IfOk result IsBuiltJob }
+    ensures usage { (result ≡ Err Usage) ↔ (database_job make (map string_bytes words.now) ≡ None) }
+{
+    let [file, backend, name, operands @ ..] = words else {
+        return Err(WordFault::Usage);
+    };
+    if backend.as_str() != "flat" || !may_be_operand(file.as_str()) || !may_be_operands(operands) {
+        return Err(WordFault::Usage);
     }
+    let action = action(alloc, name.as_str(), operands)?;
+    Ok(Job::Dbtool {
+        make,
+        file: Text::of(alloc, file.as_str())?,
+        backend: Backend::Flat,
+        action,
+    })
 }
 
 /// The job that the words stand for. They are a command line without the program's own name.
 pub fn job(alloc: Global, words: &[String]) -> Result<Job, WordFault>
     ensures job { IfOk result (λ job. job_of (map string_bytes words.now) ≡ Some job) }
-    ensures can_set { IfOk result CanDo }
-    ensures usage { (result ≡ Err WordFault.Usage) ↔ (job_of (map string_bytes words.now) ≡ None) }
+    ensures built { IfOk result IsBuiltJob }
+    ensures usage { (result ≡ Err Usage) ↔ (job_of (map string_bytes words.now) ≡ None) }
 {
-    let Some(set) = set_words(words) else {
-        return Err(WordFault::Usage);
-    };
-    Ok(Job::Dbtool {
-        make: false,
-        file: Text::of(alloc, set.file)?,
-        backend: Backend::Flat,
-        action: Action::Set {
-            key: Bytes::of(alloc, set.key.as_bytes())?,
-            value: Bytes::of(alloc, set.value.as_bytes())?,
-        },
-    })
+    match words {
+        [tool, _, ..] if tool.as_str() != "cyr_dbtool" => Err(WordFault::Usage),
+        [_, flag, words @ ..] if flag.as_str() == "-n" => dbtool(alloc, true, words),
+        [_, words @ ..] => dbtool(alloc, false, words),
+        [] => Err(WordFault::Usage),
+    }
 }
 
 /// The paths of a job's files.

@@ -91,6 +91,10 @@ change_note fault = DeviceFault Host
 abbrev pub owed_by : DbKind → DbState → ℕ → Action → Option Note
 owed_by kind s word action = if lacks_key action then Some (BadLine 1) else option_map change_note (run_refusal kind s (changes_by word action))
 
+-- what an action prints: nothing where it owes another note
+abbrev pub output_by : DbKind → DbState → ℕ → Action → List ℕ
+output_by kind s word action = if is_some (owed_by kind s word action) then [] else told_by action s.seen
+
 -- the action was done
 abbrev pub IsEnd : Note → Type 0
 IsEnd Done = Unit {0}
@@ -122,11 +126,12 @@ pub record Acts (kind : DbKind) (word : ℕ) (action : Action) (s t : DbState) (
   pub ended : IsEnd note → (owed_by kind s word action ≡ None) × (note ≡ note_by action s.seen)
   pub printed : IsEnd note → new.told ≡ told_with old.told (told_by action s.seen)
   pub made : IsEnd note → (t.committed ≡ map_after s.seen (changes_by word action)) × (t.is_broken ≡ false) × (t.in_transaction ≡ false)
-  -- in place of it comes the note that is owed, and the session is as before
+  -- in place of it comes the note that is owed; then nothing was told and the session is as before, unless the host failed
   pub refused : (IsEnd note → ⊥) → MayRefuse (owed_by kind s word action) note
   pub same : (IsEnd note → ⊥) → (IsFault note → ⊥) → t ≡ s
+  pub silent : (IsEnd note → ⊥) → (IsFault note → ⊥) → new.told ≡ old.told
   -- wherever it stops, some first bytes were told, and each image left opens to the map before its transaction or to that after it
-  pub told : ToldSome old new (told_by action s.seen)
+  pub told : ToldSome old new (output_by kind s word action)
   pub mark : d.mark ≤ e.mark
   pub each : LeavesOnly d e (λ c n. (d.mark ≤ n) × (n ≤ e.mark) × (kind.opens c s.committed ⊎ kind.opens c (map_after s.seen (changes_by word action))))
   pub kept : (IsEnd note → ⊥) → (IsFault note → ⊥) → LeavesOnly d e (λ c n. kind.opens c s.committed)

@@ -88,6 +88,7 @@ fn get<H: Host, B: Db<H>>(alloc: Global, key: &[u8], db: &B, host: &mut H) -> No
     ensures whole { IsEnd result → (H.streams host.new).told ≡ told_with (H.streams host.old).told (value_line (value_at (B.state db.now).seen key.now)) }
     ensures told { ToldSome (H.streams host.old) (H.streams host.new) (value_line (value_at (B.state db.now).seen key.now)) }
     ensures refused { (IsEnd result → ⊥) → MayRefuse None result }
+    ensures silent { (IsEnd result → ⊥) → (IsFault result → ⊥) → (H.streams host.new).told ≡ (H.streams host.old).told }
     ensures disk { TellsOnly (H.state host.old) (H.state host.new) }
     ensures cause { IsFault result → Rose (H.state host.old).faults (H.state host.new).faults }
     ensures no_fault { (IsFault result → ⊥) → (H.state host.new).faults ≡ (H.state host.old).faults }
@@ -179,6 +180,7 @@ fn show<H: Host, B: Db<H>>(alloc: Global, prefix: &[u8], db: &B, host: &mut H) -
     ensures whole { IsEnd result → (H.streams host.new).told ≡ told_with (H.streams host.old).told (shown (with_prefix (B.state db.now).seen prefix.now)) }
     ensures told { ToldSome (H.streams host.old) (H.streams host.new) (shown (with_prefix (B.state db.now).seen prefix.now)) }
     ensures refused { (IsEnd result → ⊥) → MayRefuse None result }
+    ensures silent { (IsEnd result → ⊥) → (IsFault result → ⊥) → (H.streams host.new).told ≡ (H.streams host.old).told }
     ensures disk { TellsOnly (H.state host.old) (H.state host.new) }
     ensures cause { IsFault result → Rose (H.state host.old).faults (H.state host.new).faults }
     ensures no_fault { (IsFault result → ⊥) → (H.state host.new).faults ≡ (H.state host.old).faults }
