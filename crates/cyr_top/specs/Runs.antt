@@ -8,7 +8,7 @@ use Rattle.base_core.specs.declared.note.Note.{Note}
 use Rattle.base_core.specs.declared.note.Note.TheVariants.{Done, Usage}
 use Rattle.db_core.specs.declared.fault.OpenFault.{OpenFault}
 use Rattle.db_tool.specs.Acting.{IsFault}
-use Rattle.cyr_top.specs.StatedResult.{Shown, TellsFirst, IsUnopened, KeepsMap, ChangesMap, IsLeft, IsCutOff, IsRefused, IsBuilt}
+use Rattle.cyr_top.specs.StatedResult.{Shown, TellsFirst, IsUnopened, KeepsMap, ChangesMap, IsLeft, IsCutOff, ChangesNothing, IsBuilt}
 
 -- At each moment the mark is between those at the start and at the end, and each image has Q.
 abbrev pub LeavesThen : DiskState → DiskState → (Image → Type 0) → Type 0
@@ -19,11 +19,10 @@ pub record Runs (make : Bool) (action : Action) (old new : HostState) (d e : Dis
   -- unless it was cut off, note and output are the stated ones
   pub stated : (main : Image) → d.reads ≡ Some main → IsCutOff note ⊎ ((output : List ℕ) × Shown make action main note output × (new.told ≡ told_with old.told output))
   pub told : (main : Image) → d.reads ≡ Some main → (wanted : Note) → (output : List ℕ) → Shown make action main wanted output → TellsFirst old.told new.told output
-  pub warned : new.warned ≡ old.warned
   -- at each moment an image is one that could be left at the start, or opens to the map from which the action starts, or to the one after it
   pub mark : d.mark ≤ e.mark
   pub any_moment : LeavesThen d e (λ c. d.leaves c ⊎ (KeepsMap make d.reads c ⊎ ChangesMap make action d.reads c))
-  pub refused : IsRefused note → LeavesThen d e (λ c. d.leaves c ⊎ KeepsMap make d.reads c)
+  pub unchanged : ChangesNothing note → LeavesThen d e (λ c. d.leaves c ⊎ KeepsMap make d.reads c)
   pub unopened : (main : Image) → d.reads ≡ Some main → (fault : OpenFault) → IsUnopened make main fault → LeavesThen d e d.leaves
   pub done : note ≡ Done → (c : Image) → e.leaves c → IsLeft make action d c
   -- a file that is to be made is absent only before a byte was told, and at the end only where the run was cut off

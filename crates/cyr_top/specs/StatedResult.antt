@@ -16,7 +16,7 @@ use Rattle.base_core.specs.declared.note.Device.TheVariants.{Host}
 use Rattle.db_core.specs.Opening.{Holds, IsTooBig}
 use Rattle.db_core.specs.declared.fault.OpenFault.{OpenFault}
 use Rattle.db_core.specs.declared.fault.OpenFault.TheVariants.{Absent as NoFile, TooBig, NoMemory as NoRoom, DiskFault as NoDisk, Damaged as Flawed}
-use Rattle.db_tool.specs.Acting.{told_by, note_by, is_empty, IsEnd, IsFault}
+use Rattle.db_tool.specs.Acting.{told_by, note_by, is_empty, IsFault}
 use Rattle.flat_db.specs.FlatText.{IsFlawedAt, canonical_text}
 use Rattle.flat_db.specs.Opening.{flat_opens}
 
@@ -118,9 +118,9 @@ IsLeft make action start c = ChangesMap make action start.reads c
 abbrev pub IsCutOff : Note → Type 0
 IsCutOff note = IsFault note ⊎ (note ≡ Memory)
 
--- the run was refused, and changed no map
-abbrev pub IsRefused : Note → Type 0
-IsRefused note = (IsEnd note → ⊥) × (IsFault note → ⊥)
+-- the action was refused, or answered that there is nothing
+abbrev pub ChangesNothing : Note → Type 0
+ChangesNothing note = (note ≡ Done → ⊥) × (IsFault note → ⊥)
 
 -- The notes of the actions that are built. Of the devices only the host is used.
 abbrev pub IsBuilt : Note → Type 0

@@ -1,8 +1,10 @@
 // An action over the host's main file, which is flat.
-ghost use Rattle.std.specs.Prelude.{◌≡◌, ◌⊎◌, false};
+ghost use Rattle.std.specs.Prelude.{◌≡◌, ◌⊎◌, false, IfSome, IfNone};
 ghost use Rattle.base_core.specs.Causes.{HasCause, Rose};
 ghost use Rattle.base_core.specs.HostCalls.{told_with};
 ghost use Rattle.base_core.specs.declared.action.Action.TheVariants.{Consistent};
+ghost use Rattle.base_core.specs.declared.flaw.Damage.{Damage as FlawAt};
+ghost use Rattle.db_core.specs.declared.fault.OpenFault.TheVariants.{Damaged};
 ghost use Rattle.cyr_top.specs.JobOf.{CanDo};
 ghost use Rattle.cyr_top.specs.Runs.{Runs, IsMade};
 ghost use Rattle.cyr_top.specs.StatedResult.{opening_note, flaw_line, TellsFirst};
@@ -55,6 +57,17 @@ fn note_of_opening(fault: OpenFault) -> Note
     }
 }
 
+// The flaw of a database that was not opened for one.
+fn flaw_of(fault: OpenFault) -> Option<Damage>
+    ensures some { IfSome result (λ damage. fault ≡ Damaged damage) }
+    ensures none { IfNone result ((damage : FlawAt) → fault ≡ Damaged damage → ⊥) }
+{
+    match fault {
+        OpenFault::Damaged(damage) => Some(damage),
+        _ => None,
+    }
+}
+
 // The line of a check that met a flaw. It takes no memory.
 fn line_of_flaw(damage: Damage) -> ArrayString<CHECK_LINE_LENGTH>
     ensures { result.bytes ≡ flaw_line damage }
@@ -89,14 +102,16 @@ fn end_with<H: Host>(host: &mut H, line: &str, note: Note) -> Note
 // Prints whether the main file opens, or its first flaw. It only reads.
 fn check<H: Host>(alloc: Global, host: &mut H) -> Note
     ensures runs { Runs false Consistent (H.streams host.old) (H.streams host.new) (H.state host.old) (H.state host.new) result }
+    ensures warned { (H.streams host.new).warned ≡ (H.streams host.old).warned }
     ensures rest { H.host_rest host.old host.new }
 {
-    match check_db(alloc, host) {
-        Ok(_) => end_with(host, "consistent\n", Note::Done),
-        Err(OpenFault::Damaged(damage)) => {
-            end_with(host, line_of_flaw(damage).as_str(), Note::Answer)
-        }
-        Err(fault) => note_of_opening(fault),
+    let fault = match check_db(alloc, host) {
+        Ok(_) => return end_with(host, "consistent\n", Note::Done),
+        Err(fault) => fault,
+    };
+    match flaw_of(fault) {
+        Some(damage) => end_with(host, line_of_flaw(damage).as_str(), Note::Answer),
+        None => note_of_opening(fault),
     }
 }
 
@@ -109,6 +124,7 @@ fn act_on_file<H: Host, R: Rng>(
 ) -> Note
     requires { CanAct action.now }
     ensures runs { Runs false action.now (H.streams host.old) (H.streams host.new) (H.state host.old) (H.state host.new) result }
+    ensures warned { (H.streams host.new).warned ≡ (H.streams host.old).warned }
     ensures drawn { (R.stream rng.new ≡ R.stream rng.old) ⊎ (R.stream rng.new ≡ (next_u32 (R.stream rng.old)).1) }
     ensures rest { H.host_rest host.old host.new }
 {
@@ -127,6 +143,7 @@ fn do_action<H: Host, R: Rng>(
 ) -> Note
     requires { CanDo action.now }
     ensures runs { Runs false action.now (H.streams host.old) (H.streams host.new) (H.state host.old) (H.state host.new) result }
+    ensures warned { (H.streams host.new).warned ≡ (H.streams host.old).warned }
     ensures drawn { (R.stream rng.new ≡ R.stream rng.old) ⊎ (R.stream rng.new ≡ (next_u32 (R.stream rng.old)).1) }
     ensures rest { H.host_rest host.old host.new }
 {
@@ -146,6 +163,7 @@ pub(crate) fn do_made<H: Host, R: Rng>(
 ) -> Note
     requires { CanDo action.now }
     ensures runs { Runs make action.now (H.streams host.old) (H.streams host.new) (H.state host.old) (H.state host.new) result }
+    ensures warned { (H.streams host.new).warned ≡ (H.streams host.old).warned }
     ensures drawn { (R.stream rng.new ≡ R.stream rng.old) ⊎ (R.stream rng.new ≡ (next_u32 (R.stream rng.old)).1) }
     ensures rest { H.host_rest host.old host.new }
 {

@@ -12,9 +12,9 @@ ghost use Rattle.cyr_top.specs.JobOf.{job_of, Asks, IsBuiltJob};
 ghost use Rattle.cyr_top.specs.declared.jobs.Job.TheVariants.{Dbtool};
 ghost use Rattle.cyr_top.specs.Opened.{EachOpens, StartsAt, KeepsPrefix, IsNotMade};
 ghost use Rattle.cyr_top.specs.Runs.{Runs, LeavesThen};
-ghost use Rattle.cyr_top.specs.StatedResult.{Shown, TellsFirst, IsUnopened, IsCutOff, IsRefused, IsBuilt, IsLeft, KeepsMap, ChangesMap, map_left};
+ghost use Rattle.cyr_top.specs.StatedResult.{Shown, TellsFirst, IsUnopened, IsCutOff, ChangesNothing, IsBuilt, IsLeft, KeepsMap, ChangesMap, map_left};
 ghost use Rattle.db_core.specs.declared.fault.OpenFault.{OpenFault};
-ghost use Rattle.db_tool.specs.Acting.{IsEnd, IsFault};
+ghost use Rattle.db_tool.specs.Acting.{IsFault};
 ghost use Rattle.flat_db.specs.Opening.{flat_opens};
 ghost use Rattle.rand_core.specs.Stream.{next_u32};
 
@@ -28,6 +28,11 @@ use std::alloc::Global;
 fn do_job<H: Host, R: Rng>(alloc: Global, job: &Job, host: &mut H, rng: &mut R) -> Note
     requires { IsBuiltJob job.now }
     ensures runs { (make : Bool) (file : List ℕ) (action : Act) → job.now ≡ Dbtool make file Flat action → Runs make action (H.streams host.old) (H.streams host.new) (H.state host.old) (H.state host.new) result }
+    ensures built { IsBuilt result }
+    ensures no_usage { result ≡ Note.Usage → ⊥ }
+    ensures rose { IsFault result → Rose (H.state host.old).faults (H.state host.new).faults }
+    ensures stood { (IsFault result → ⊥) → (H.state host.new).faults ≡ (H.state host.old).faults }
+    ensures warned { (H.streams host.new).warned ≡ (H.streams host.old).warned }
     ensures drawn { (R.stream rng.new ≡ R.stream rng.old) ⊎ (R.stream rng.new ≡ (next_u32 (R.stream rng.old)).1) }
     ensures rest { H.host_rest host.old host.new }
 {
@@ -89,8 +94,8 @@ pub fn run<H: Host, R: Rng>(
     // After `Done` a crash leaves nothing but a file of the map that the action leaves.
     ensures done { (make : Bool) (action : Act) → Asks (map string_bytes words.now) make action → result.note ≡ Note.Done → (c : Image) → (H.state host.new).leaves c → IsLeft make action (H.state host.old) c }
 
-    // A refusal that is no device fault leaves the file's map as it was, at every moment; one that is not opened leaves the file as it was.
-    ensures refused { (make : Bool) (action : Act) → Asks (map string_bytes words.now) make action → IsRefused result.note
+    // Any other note that is no device fault leaves the file's map as it was, at every moment. A file that is not opened stays as it was.
+    ensures unchanged { (make : Bool) (action : Act) → Asks (map string_bytes words.now) make action → ChangesNothing result.note
         → LeavesThen (H.state host.old) (H.state host.new) (λ c. (H.state host.old).leaves c ⊎ KeepsMap make (H.state host.old).reads c) }
     ensures unopened { (make : Bool) (action : Act) → Asks (map string_bytes words.now) make action → (main : Image) → (H.state host.old).reads ≡ Some main
         → (fault : OpenFault) → IsUnopened make main fault → LeavesThen (H.state host.old) (H.state host.new) (H.state host.old).leaves }
@@ -101,13 +106,13 @@ pub fn run<H: Host, R: Rng>(
 
     // The same in words of maps and transactions: where the run starts from one map, each image that is left opens to the map after
     // a prefix of the action's transactions that holds every acknowledged one, or is the absent file that is to be made, before a
-    // byte was told. At the end it opens to the map after all of them, and after a refusal to the map at the start.
+    // byte was told. At the end it opens to the map after all of them where the note is `Done`, and else to the map at the start.
     ensures crash { (make : Bool) (action : Act) → Asks (map string_bytes words.now) make action → (m : Map) → StartsAt make (H.state host.old) m
         → LeavesOnly (H.state host.old) (H.state host.new) (λ c n. KeepsPrefix action m (H.state host.old).mark c n ⊎ IsNotMade make (H.state host.old).mark c n) }
     ensures committed { (make : Bool) (action : Act) → Asks (map string_bytes words.now) make action → (m : Map) → StartsAt make (H.state host.old) m
-        → IsEnd result.note → EachOpens (H.state host.new) (map_left m action) }
+        → result.note ≡ Note.Done → EachOpens (H.state host.new) (map_left m action) }
     ensures uncommitted { (make : Bool) (action : Act) → Asks (map string_bytes words.now) make action → (m : Map) → StartsAt make (H.state host.old) m
-        → IsRefused result.note → (c : Image) → (H.state host.new).leaves c → flat_opens c m ⊎ ((make ≡ true) × (c ≡ None) × (result.note ≡ Note.Memory)) }
+        → ChangesNothing result.note → (c : Image) → (H.state host.new).leaves c → flat_opens c m ⊎ ((make ≡ true) × (c ≡ None) × (result.note ≡ Note.Memory)) }
 
     // There is no other note than those of the actions that are built, and no other device than the host.
     ensures built { IsBuilt result.note }
