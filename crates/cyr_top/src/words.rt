@@ -1,5 +1,5 @@
 // The words of a command line, read by hand: the flags come first.
-ghost use Rattle.std.specs.Prelude.{◌≡◌, ◌↔◌, ◌∷◌, IfOk, None, Some, map, string_bytes};
+ghost use Rattle.std.specs.Prelude.{◌≡◌, ◌↔◌, [], ◌∷◌, IfOk, None, Some, map, string_bytes};
 ghost use Rattle.std.specs.List.{list_all};
 ghost use Rattle.cyr_top.specs.JobOf.{job_of, database_job, action_of, is_operand, CanDo, IsBuiltJob, main_path};
 ghost use Rattle.cyr_top.specs.declared.jobs.WordFault.TheVariants.{Usage};
@@ -26,30 +26,71 @@ fn bytes_of(alloc: Global, word: &str) -> Result<Bytes, NoMemory>
     Bytes::of(alloc, word.as_bytes())
 }
 
+// The action of a name with no words behind it.
+fn action_without_words(alloc: Global, name: &str) -> Result<Action, WordFault>
+    ensures action { IfOk result (λ action. action_of name.now [] ≡ Some action) }
+    ensures built { IfOk result CanDo }
+    ensures usage { (result ≡ Err Usage) ↔ (action_of name.now [] ≡ None) }
+{
+    match name {
+        "show" => Ok(Action::Show {
+            prefix: bytes_of(alloc, "")?,
+        }),
+        "consistent" => Ok(Action::Consistent),
+        _ => Err(WordFault::Usage),
+    }
+}
+
+// The action of a name with one word behind it.
+fn action_with_word(alloc: Global, name: &str, word: &str) -> Result<Action, WordFault>
+    ensures action { IfOk result (λ action. action_of name.now (word.now ∷ []) ≡ Some action) }
+    ensures built { IfOk result CanDo }
+    ensures usage { (result ≡ Err Usage) ↔ (action_of name.now (word.now ∷ []) ≡ None) }
+{
+    match name {
+        "show" => Ok(Action::Show {
+            prefix: bytes_of(alloc, word)?,
+        }),
+        "get" => Ok(Action::Get {
+            key: bytes_of(alloc, word)?,
+        }),
+        "delete" => Ok(Action::Delete {
+            key: bytes_of(alloc, word)?,
+        }),
+        _ => Err(WordFault::Usage),
+    }
+}
+
+// The action of a name with two words behind it.
+fn action_with_two_words(
+    alloc: Global,
+    name: &str,
+    key: &str,
+    value: &str,
+) -> Result<Action, WordFault>
+    ensures action { IfOk result (λ action. action_of name.now (key.now ∷ value.now ∷ []) ≡ Some action) }
+    ensures built { IfOk result CanDo }
+    ensures usage { (result ≡ Err Usage) ↔ (action_of name.now (key.now ∷ value.now ∷ []) ≡ None) }
+{
+    if name != "set" {
+        return Err(WordFault::Usage);
+    }
+    Ok(Action::Set {
+        key: bytes_of(alloc, key)?,
+        value: bytes_of(alloc, value)?,
+    })
+}
+
 // The action of a name and the words behind it.
 fn action(alloc: Global, name: &str, words: &[String]) -> Result<Action, WordFault>
     ensures action { IfOk result (λ action. action_of name.now (map string_bytes words.now) ≡ Some action) }
     ensures built { IfOk result CanDo }
     ensures usage { (result ≡ Err Usage) ↔ (action_of name.now (map string_bytes words.now) ≡ None) }
 {
-    match (name, words) {
-        ("show", []) => Ok(Action::Show {
-            prefix: bytes_of(alloc, "")?,
-        }),
-        ("show", [prefix]) => Ok(Action::Show {
-            prefix: bytes_of(alloc, prefix.as_str())?,
-        }),
-        ("get", [key]) => Ok(Action::Get {
-            key: bytes_of(alloc, key.as_str())?,
-        }),
-        ("set", [key, value]) => Ok(Action::Set {
-            key: bytes_of(alloc, key.as_str())?,
-            value: bytes_of(alloc, value.as_str())?,
-        }),
-        ("delete", [key]) => Ok(Action::Delete {
-            key: bytes_of(alloc, key.as_str())?,
-        }),
-        ("consistent", []) => Ok(Action::Consistent),
+    match words {
+        [] => action_without_words(alloc, name),
+        [word] => action_with_word(alloc, name, word.as_str()),
+        [key, value] => action_with_two_words(alloc, name, key.as_str(), value.as_str()),
         _ => Err(WordFault::Usage),
     }
 }
