@@ -1,2 +1,4 @@
+pub mod CrashLemmas
+pub mod MakeLemmas
 pub mod RunLemmas
 pub mod ShownLemmas

@@ -78,6 +78,14 @@ checks_plainly NoRoom sound = (refl, refl)
 checks_plainly NoDisk sound = (refl, refl)
 checks_plainly (Flawed damage) sound = absurd (sound damage refl)
 
+-- a flaw is no fault of the disk
+pub stood_for : {T : Type 0} {before now : ℕ} (fault : OpenFault) (damage : Damage) → fault ≡ Flawed damage → HasOpenCause {T = T} before now (Err fault) → now ≡ before
+stood_for (Flawed damage) flaw is cause = ⊎_elim (λ failed. absurd failed) (λ same. same) cause.stood
+stood_for NoFile flaw is cause = absurd (cc is)
+stood_for (TooBig size) flaw is cause = absurd (cc is)
+stood_for NoRoom flaw is cause = absurd (cc is)
+stood_for NoDisk flaw is cause = absurd (cc is)
+
 module _ {T : Type 0} (action : Action) (o p : HostState) (d e : DiskState) (fault : OpenFault) (plain : IsPlain action fault)
     (less : MayLeaveLess d e) (silent : p ≡ o) (refusal : (main : Image) → d.reads ≡ Some main → IsRefused main fault) (cause : HasOpenCause {T = T} d.faults e.faults (Err fault)) where
   each_before : (Q : Image → Type 0) → ((c : Image) → d.leaves c → Q c) → LeavesThen d e Q
