@@ -111,6 +111,7 @@ runs_still make action o p q d x e note same told runs = record {
   any_moment = then _ runs.any_moment;
   unchanged = λ nothing. then _ (runs.unchanged nothing);
   unopened = λ main is fault un. then _ (runs.unopened main is fault un);
+  kept = λ none bytes is. then _ (runs.kept none bytes is);
   done = λ is c left. runs.done is c (same.leaves.no_more c left);
   absent = λ makes none. leaves_still d x e _ same (runs.absent makes none);
   made = λ makes none. ⊎_elim inl (λ there. inr (λ left. there (same.leaves.no_more None left))) (runs.made makes none);

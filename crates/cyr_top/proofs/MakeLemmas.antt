@@ -136,6 +136,10 @@ module _ (action : Action) (o q : HostState) (d x : DiskState) (dx : GoesOn d x)
       unopened_none i NoRoom none u = u
       unopened_none i NoDisk none u = u
 
+  -- what is left of a file that was there could be left before
+  from_there : (bytes : List ℕ) (c : Image) → d.reads ≡ Some (Some bytes) → may_be_made c → d.leaves c
+  from_there bytes c is left = ⊎_elim (λ was. was) (λ new. cc (is, new.0)) left
+
   -- the file could not be made
   pub not_made : {T E : Type 0} (fault : E) → IsMade {T = T} d x (Err fault) → HasCause {T = T} d.faults x.faults (Err fault) → Runs true action o q d x (DeviceFault Host)
   not_made fault made cause = record {
@@ -145,6 +149,7 @@ module _ (action : Action) (o q : HostState) (d x : DiskState) (dx : GoesOn d x)
     any_moment = then (λ c. d.leaves c ⊎ (KeepsMap true d.reads c ⊎ ChangesMap true action d.reads c)) (λ c left. ⊎_elim inl (λ new. inr (inl (kept_made c new.0 new.1))) left);
     unchanged = λ no_fault. absurd (no_fault.1 tt);
     unopened = λ main is f un. then d.leaves (λ c left. from_unopened main f c is un left);
+    kept = λ none bytes is. then d.leaves (λ c left. from_there bytes c is left);
     done = λ is c left. absurd (cc is);
     absent = λ makes none. record { each = λ c n left was. (made.each.each c n left).0 };
     made = λ makes none. inl (inl tt);
@@ -216,6 +221,7 @@ module _ (action : Action) (o q : HostState) (d x : DiskState) (dx : GoesOn d x)
           (λ c left. ⊎_elim (λ was. from_made c (left_made c was)) (λ kept. inr (keeps c kept)) left) (runs.unchanged nothing);
       unopened = λ main is fault un. both d.leaves _ (λ c left. from_unopened main fault c is un left) (λ c left. from_unopened main fault c is un (left_made c left))
           (runs.unopened (made_image main) (reads_made main is) fault (made_unopened main fault un));
+      kept = λ none bytes is. both d.leaves _ (λ c left. from_there bytes c is left) (λ c left. from_there bytes c is (left_made c left)) (runs.kept none bytes (reads_made (Some bytes) is));
       done = λ is c left. done_made action c changes (runs.done is c left);
       absent = λ makes none. each_then d x e (λ c n. c ≡ None → n ≡ d.mark) dx xe
           (record { each = λ c n left was. (made.each.each c n left).0 })

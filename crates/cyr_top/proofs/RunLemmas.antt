@@ -24,7 +24,7 @@ use Rattle.flat_db.specs.Opening.{flat_opens, IsRefused, MayLeaveLess}
 use Rattle.flat_db.specs.Sessions.{FlatSession, FlatTied, at_rest, flat_kind, flat_state}
 use Rattle.flat_db.proofs.OpeningLemmas.{some_of}
 use Rattle.cyr_top.specs.Runs.{Runs, LeavesThen}
-use Rattle.cyr_top.specs.StatedResult.{StartsFrom, IsUnopened, Shown, ends, refused, unopened, TellsFirst, IsCutOff, ChangesNothing, IsBuilt, IsLeft, KeepsMap, ChangesMap, map_left, refusal_over, output_over, opening_note, unopened_note, unopened_output}
+use Rattle.cyr_top.specs.StatedResult.{StartsFrom, IsUnopened, Shown, ends, refused, unopened, TellsFirst, IsCutOff, ChangesNothing, IsBuilt, IsLeft, KeepsMap, ChangesMap, transactions_of, map_left, refusal_over, output_over, opening_note, unopened_note, unopened_output}
 use Rattle.cyr_top.proofs.ShownLemmas.{one_map, unopened_opens, shown_once, owed_is, refusal_fits}
 
 -- nothing was told
@@ -127,6 +127,7 @@ module _ {T : Type 0} (action : Action) (o p : HostState) (d e : DiskState) (fau
     any_moment = each_before (λ c. d.leaves c ⊎ (KeepsMap false d.reads c ⊎ ChangesMap false action d.reads c)) (λ c left. inl left);
     unchanged = λ not_so. each_before (λ c. d.leaves c ⊎ KeepsMap false d.reads c) (λ c left. inl left);
     unopened = λ main is f un. each_before d.leaves (λ c left. left);
+    kept = λ none bytes is. each_before d.leaves (λ c left. left);
     done = λ is c left. absurd ((is_note fault).2 is);
     absent = λ makes is. absurd (cc makes);
     made = λ makes is. absurd (cc makes);
@@ -164,6 +165,7 @@ module _ (o q p : HostState) (d x e : DiskState) (note result : Note) (line : Li
     any_moment = before (λ c. d.leaves c ⊎ (KeepsMap false d.reads c ⊎ ChangesMap false Consistent d.reads c)) (λ c left. inl left);
     unchanged = λ not_so. before (λ c. d.leaves c ⊎ KeepsMap false d.reads c) (λ c left. inl left);
     unopened = λ main is f un. before d.leaves (λ c left. left);
+    kept = λ none bytes is. before d.leaves (λ c left. left);
     done = λ is c left. inl (less.leaves c (tells.keeps.leaves.no_more c left));
     absent = λ makes is. absurd (cc makes);
     made = λ makes is. absurd (cc makes);
@@ -269,6 +271,22 @@ module _ (word : ℕ) (action : Action) (can : CanAct action) (o q p : HostState
     each = λ c n left. inr (⊎_elim (λ opens. inl (keeps c some opens)) (λ opens. inr (changes c some (subst (flat_opens c) (changes_leave word m action can) opens))) (acts.each.each c n left).2);
   })
 
+  -- an action without a transaction only tells
+  no_changes : (a : Action) → transactions_of a ≡ [] → changes_by word a ≡ []
+  no_changes (Set key value) none = absurd (cc none)
+  no_changes (Delete key) none = absurd (cc none)
+  no_changes (Show prefix) none = refl
+  no_changes (Get key) none = refl
+  no_changes Consistent none = refl
+  no_changes Repack none = refl
+  no_changes Batch none = refl
+  no_changes (Exercise rounds) none = refl
+
+  only_told : TellsOnly x e → LeavesThen d e d.leaves
+  only_told tells = each_then d x e (λ c n. (d.mark ≤ n) × (n ≤ e.mark) × d.leaves c) dx xe
+      (record { each = λ c n left. let pair = less.each.each c n left in (omega (arith, pair.0), omega (arith, pair.0, less.mark, tells.mark), pair.1) })
+      (record { each = λ c n left. let pair = tells.each.each c n left in (omega (arith, pair.1, less.mark), pair.2, less.leaves c pair.0) })
+
   -- each image opens to the map that was read, where nothing was changed
   still : (IsSome d.reads → LeavesOnly x e (λ c n. flat_opens c m)) → LeavesThen d e (λ c. d.leaves c ⊎ KeepsMap false d.reads c)
   still opens = both (KeepsMap false d.reads) (λ some. record { each = λ c n left. inr (keeps c some ((opens some).each c n left)) })
@@ -336,6 +354,7 @@ module _ (word : ℕ) (action : Action) (can : CanAct action) (o q p : HostState
     any_moment = any;
     unchanged = nothing_changed how;
     unopened = λ main is fault un. absurd (unopened_opens false main fault m un (read main is));
+    kept = λ none bytes is. only_told (acts.tells (no_changes action none));
     done = left_done;
     absent = λ makes is. absurd (cc makes);
     made = λ makes is. absurd (cc makes);

@@ -8,7 +8,7 @@ use Rattle.base_core.specs.declared.note.Note.{Note}
 use Rattle.base_core.specs.declared.note.Note.TheVariants.{Done, Usage}
 use Rattle.db_core.specs.declared.fault.OpenFault.{OpenFault}
 use Rattle.db_tool.specs.Acting.{IsFault}
-use Rattle.cyr_top.specs.StatedResult.{Shown, TellsFirst, IsUnopened, KeepsMap, ChangesMap, IsLeft, IsCutOff, ChangesNothing, IsBuilt}
+use Rattle.cyr_top.specs.StatedResult.{Shown, TellsFirst, IsUnopened, KeepsMap, ChangesMap, IsLeft, transactions_of, IsCutOff, ChangesNothing, IsBuilt}
 
 -- At each moment the mark is between those at the start and at the end, and each image has Q.
 abbrev pub LeavesThen : DiskState → DiskState → (Image → Type 0) → Type 0
@@ -24,6 +24,8 @@ pub record Runs (make : Bool) (action : Action) (old new : HostState) (d e : Dis
   pub any_moment : LeavesThen d e (λ c. d.leaves c ⊎ (KeepsMap make d.reads c ⊎ ChangesMap make action d.reads c))
   pub unchanged : ChangesNothing note → LeavesThen d e (λ c. d.leaves c ⊎ KeepsMap make d.reads c)
   pub unopened : (main : Image) → d.reads ≡ Some main → (fault : OpenFault) → IsUnopened make main fault → LeavesThen d e d.leaves
+  -- an action without a transaction changes nothing of a file that is there
+  pub kept : transactions_of action ≡ [] → (bytes : List ℕ) → d.reads ≡ Some (Some bytes) → LeavesThen d e d.leaves
   pub done : note ≡ Done → (c : Image) → e.leaves c → IsLeft make action d c
   -- a file that is to be made is absent only before a byte was told, and at the end only where the run was cut off
   pub absent : make ≡ true → d.reads ≡ Some None → LeavesOnly d e (λ c n. c ≡ None → n ≡ d.mark)

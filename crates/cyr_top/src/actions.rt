@@ -116,12 +116,7 @@ fn check<H: Host>(alloc: Global, host: &mut H) -> Note
 }
 
 // Opens the main file and does an action with it.
-fn act_on_file<H: Host, R: Rng>(
-    alloc: Global,
-    action: &Action,
-    host: &mut H,
-    rng: &mut R,
-) -> Note
+fn act_on_file<H: Host, R: Rng>(alloc: Global, action: &Action, host: &mut H, rng: &mut R) -> Note
     requires { CanAct action.now }
     ensures runs { Runs false action.now (H.streams host.old) (H.streams host.new) (H.state host.old) (H.state host.new) result }
     ensures warned { (H.streams host.new).warned ≡ (H.streams host.old).warned }
@@ -135,12 +130,7 @@ fn act_on_file<H: Host, R: Rng>(
 }
 
 // Does an action over the main file as it is.
-fn do_action<H: Host, R: Rng>(
-    alloc: Global,
-    action: &Action,
-    host: &mut H,
-    rng: &mut R,
-) -> Note
+fn do_action<H: Host, R: Rng>(alloc: Global, action: &Action, host: &mut H, rng: &mut R) -> Note
     requires { CanDo action.now }
     ensures runs { Runs false action.now (H.streams host.old) (H.streams host.new) (H.state host.old) (H.state host.new) result }
     ensures warned { (H.streams host.new).warned ≡ (H.streams host.old).warned }

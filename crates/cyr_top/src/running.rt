@@ -1,5 +1,5 @@
 // The top call: words, the host's files and streams in, the status and its note out.
-ghost use Rattle.std.specs.Prelude.{◌≡◌, ◌⊎◌, ◌↔◌, ℕ, Bool, true, List, Some, None, map, string_bytes};
+ghost use Rattle.std.specs.Prelude.{◌≡◌, ◌⊎◌, ◌↔◌, ℕ, Bool, true, List, [], Some, None, map, string_bytes};
 ghost use Rattle.base_core.specs.Causes.{Rose};
 ghost use Rattle.base_core.specs.CrashImages.{Image, LeavesOnly, SameDisk};
 ghost use Rattle.base_core.specs.HostCalls.{told_with};
@@ -12,7 +12,7 @@ ghost use Rattle.cyr_top.specs.JobOf.{job_of, Asks, IsBuiltJob};
 ghost use Rattle.cyr_top.specs.declared.jobs.Job.TheVariants.{Dbtool};
 ghost use Rattle.cyr_top.specs.Opened.{EachOpens, StartsAt, KeepsPrefix, IsNotMade};
 ghost use Rattle.cyr_top.specs.Runs.{Runs, LeavesThen};
-ghost use Rattle.cyr_top.specs.StatedResult.{Shown, TellsFirst, IsUnopened, IsCutOff, ChangesNothing, IsBuilt, IsLeft, KeepsMap, ChangesMap, map_left};
+ghost use Rattle.cyr_top.specs.StatedResult.{Shown, TellsFirst, IsUnopened, IsCutOff, ChangesNothing, IsBuilt, IsLeft, KeepsMap, ChangesMap, transactions_of, map_left};
 ghost use Rattle.db_core.specs.declared.fault.OpenFault.{OpenFault};
 ghost use Rattle.db_tool.specs.Acting.{IsFault};
 ghost use Rattle.flat_db.specs.Opening.{flat_opens};
@@ -41,12 +41,7 @@ fn do_job<H: Host, R: Rng>(alloc: Global, job: &Job, host: &mut H, rng: &mut R) 
 }
 
 // Does what the words ask for.
-fn perform<H: Host, R: Rng>(
-    alloc: Global,
-    words: &[String],
-    host: &mut H,
-    rng: &mut R,
-) -> Note
+fn perform<H: Host, R: Rng>(alloc: Global, words: &[String], host: &mut H, rng: &mut R) -> Note
     ensures usage { (result ≡ Note.Usage) ↔ (job_of (map string_bytes words.now) ≡ None) }
     ensures untouched { result ≡ Note.Usage → host.new ≡ host.old }
     ensures runs { (make : Bool) (action : Act) → Asks (map string_bytes words.now) make action → Runs make action (H.streams host.old) (H.streams host.new) (H.state host.old) (H.state host.new) result }
@@ -68,12 +63,7 @@ fn perform<H: Host, R: Rng>(
 ///
 /// `words` are the command line without the program's own name. The note's text goes to standard error. At most one
 /// random word is drawn. `docs/guarantees.md` says what each clause means for a file.
-pub fn run<H: Host, R: Rng>(
-    alloc: Global,
-    words: &[String],
-    host: &mut H,
-    rng: &mut R,
-) -> Outcome
+pub fn run<H: Host, R: Rng>(alloc: Global, words: &[String], host: &mut H, rng: &mut R) -> Outcome
     ensures status { result.status ≡ status_of result.note }
 
     // The words give no job: exactly then the run answers so, and it changes nothing but standard error.
@@ -99,6 +89,10 @@ pub fn run<H: Host, R: Rng>(
         → LeavesThen (H.state host.old) (H.state host.new) (λ c. (H.state host.old).leaves c ⊎ KeepsMap make (H.state host.old).reads c) }
     ensures unopened { (make : Bool) (action : Act) → Asks (map string_bytes words.now) make action → (main : Image) → (H.state host.old).reads ≡ Some main
         → (fault : OpenFault) → IsUnopened make main fault → LeavesThen (H.state host.old) (H.state host.new) (H.state host.old).leaves }
+
+    // An action without a transaction changes nothing of a file that is there.
+    ensures kept { (make : Bool) (action : Act) → Asks (map string_bytes words.now) make action → transactions_of action ≡ [] → (bytes : List ℕ) → (H.state host.old).reads ≡ Some (Some bytes)
+        → LeavesThen (H.state host.old) (H.state host.new) (H.state host.old).leaves }
 
     // Wherever the run stops, the file is one that could be left before, or opens to the map from which the action starts or to that after it.
     ensures any_moment { (make : Bool) (action : Act) → Asks (map string_bytes words.now) make action

@@ -13,6 +13,7 @@ use Rattle.base_core.specs.declared.note.LimitName.TheVariants.{Key, Value, File
 use Rattle.base_core.specs.declared.note.Device.TheVariants.{Host}
 use Rattle.db_core.specs.Sessions.{DbKind, DbState}
 use Rattle.db_core.specs.WholeTransactions.{map_after, run_refusal}
+use Rattle.db_tool.specs.Printing.{TellsOnly}
 use Rattle.db_core.specs.declared.change.Change.{Change}
 use Rattle.db_core.specs.declared.change.Change.TheVariants.{Put, Del}
 use Rattle.db_core.specs.declared.fault.DbFault.{DbFault}
@@ -135,5 +136,7 @@ pub record Acts (kind : DbKind) (word : ℕ) (action : Action) (s t : DbState) (
   pub mark : d.mark ≤ e.mark
   pub each : LeavesOnly d e (λ c n. (d.mark ≤ n) × (n ≤ e.mark) × (kind.opens c s.committed ⊎ kind.opens c (map_after s.seen (changes_by word action))))
   pub kept : (IsEnd note → ⊥) → (IsFault note → ⊥) → LeavesOnly d e (λ c n. kind.opens c s.committed)
+  -- an action without a change tells, and does nothing else to the host
+  pub tells : changes_by word action ≡ [] → TellsOnly d e
   pub rose : IsFault note → Rose d.faults e.faults
   pub stood : (IsFault note → ⊥) → e.faults ≡ d.faults

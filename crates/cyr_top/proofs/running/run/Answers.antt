@@ -32,6 +32,9 @@ returns-clause-unchanged g c = λ make action asks. (whole g c make action asks)
 pub returns-clause-unopened : goal.returns-clause-unopened
 returns-clause-unopened g c = λ make action asks. (whole g c make action asks).unopened
 
+pub returns-clause-kept : goal.returns-clause-kept
+returns-clause-kept g c = λ make action asks. (whole g c make action asks).kept
+
 pub returns-clause-any_moment : goal.returns-clause-any_moment
 returns-clause-any_moment g c = λ make action asks. (whole g c make action asks).any_moment
 
