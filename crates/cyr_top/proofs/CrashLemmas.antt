@@ -1,10 +1,8 @@
 -- What is left of a run, in words of maps and transactions.
-use Rattle.std.proofs.Common.{◌≡◌, ◌⊎◌, inl, inr, ⊎_elim, ℕ, ◌-◌, ◌≤◌, Bool, true, List, [], ◌∷◌, Option, None, Some, length, take, refl, sym, ◌∙◌, ap, subst, arith}
-use Rattle.std.specs.Prelude.{IsSome}
-use Rattle.base_core.specs.CrashImages.{Image, DiskState, GoesOn, LeavesOnly, IsMoment, SameDisk, LeavesSame}
+use Rattle.std.proofs.Common.{◌≡◌, ◌⊎◌, inl, inr, ⊎_elim, ℕ, Bool, true, List, None, Some, sym, ◌∙◌, ap, subst, arith}
+use Rattle.base_core.specs.CrashImages.{Image, DiskState, GoesOn, LeavesOnly, IsMoment, SameDisk}
 use Rattle.base_core.specs.HostCalls.{HostState, told_with}
 use Rattle.base_core.specs.OrderedMap.{Map}
-use Rattle.base_core.specs.Transactions.{Transaction, after_first, after_transactions}
 use Rattle.base_core.specs.declared.action.Action.{Action}
 use Rattle.base_core.specs.declared.action.Action.TheVariants.{Show, Get, Set, Delete, Consistent, Repack, Batch, Exercise}
 use Rattle.base_core.specs.declared.note.Note.{Note}
@@ -15,7 +13,7 @@ use Rattle.flat_db.specs.Opening.{flat_opens}
 use Rattle.flat_db.proofs.OpeningLemmas.{some_of}
 use Rattle.cyr_top.specs.Opened.{EachOpens, StartsAt, opened, to_make, KeepsPrefix, IsNotMade}
 use Rattle.cyr_top.specs.Runs.{Runs, LeavesThen}
-use Rattle.cyr_top.specs.StatedResult.{StartsFrom, Shown, TellsFirst, IsCutOff, ChangesNothing, IsLeft, KeepsMap, ChangesMap, transactions_of, map_left}
+use Rattle.cyr_top.specs.StatedResult.{StartsFrom, Shown, IsCutOff, ChangesNothing, IsLeft, KeepsMap, ChangesMap, map_left}
 use Rattle.cyr_top.proofs.ShownLemmas.{one_map, none_opens, shown_once}
 
 -- an image of the map at the start, and one of the map after all transactions

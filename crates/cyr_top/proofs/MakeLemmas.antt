@@ -1,8 +1,8 @@
 -- An absent main file is made, and then an action runs over it.
-use Rattle.std.proofs.Common.{◌≡◌, ◌⊎◌, inl, inr, ⊎_elim, ℕ, ◌≤◌, Bool, true, false, List, [], Option, Some, None, Result, Ok, Err, refl, sym, ◌∙◌, ap, subst, arith}
+use Rattle.std.proofs.Common.{◌≡◌, ◌⊎◌, inl, inr, ⊎_elim, ℕ, ◌≤◌, true, false, List, [], Option, Some, None, Result, Ok, Err, refl, sym, ◌∙◌, ap, subst, arith}
 use Rattle.std.specs.Prelude.{IsSome, OnOk}
 use Rattle.base_core.specs.Causes.{Rose, HasCause}
-use Rattle.base_core.specs.CrashImages.{Image, DiskState, GoesOn, LeavesOnly, IsMoment, IsDurable, KeepsMain, StaysAs}
+use Rattle.base_core.specs.CrashImages.{Image, DiskState, GoesOn, IsMoment, IsDurable, KeepsMain, StaysAs}
 use Rattle.base_core.specs.DiskCalls.{DiskCall, IsLength}
 use Rattle.base_core.specs.HostCalls.{HostState, told_with}
 use Rattle.base_core.specs.OrderedMap.{Map}
@@ -10,7 +10,7 @@ use Rattle.base_core.specs.Time.{goes_then}
 use Rattle.base_core.specs.declared.action.Action.{Action}
 use Rattle.base_core.specs.declared.action.Action.TheVariants.{Show, Get, Set, Delete, Consistent, Repack, Batch, Exercise}
 use Rattle.base_core.specs.declared.note.Note.{Note}
-use Rattle.base_core.specs.declared.note.Note.TheVariants.{Done, DeviceFault}
+use Rattle.base_core.specs.declared.note.Note.TheVariants.{DeviceFault}
 use Rattle.base_core.specs.declared.note.Device.TheVariants.{Host}
 use Rattle.base_core.proofs.Moments.{each_then, where_told, stays_call}
 use Rattle.db_core.specs.declared.fault.OpenFault.{OpenFault}
@@ -19,7 +19,7 @@ use Rattle.flat_db.specs.Opening.{flat_opens}
 use Rattle.flat_db.specs.Replacing.{Replaces, MayReplace}
 use Rattle.flat_db.proofs.OpeningLemmas.{some_of}
 use Rattle.cyr_top.specs.Runs.{Runs, LeavesThen, IsMade}
-use Rattle.cyr_top.specs.StatedResult.{StartsFrom, IsUnopened, Shown, ends, refused, unopened, TellsFirst, IsCutOff, IsLeft, KeepsMap, ChangesMap}
+use Rattle.cyr_top.specs.StatedResult.{StartsFrom, IsUnopened, Shown, ends, refused, unopened, TellsFirst, IsLeft, KeepsMap, ChangesMap}
 use Rattle.cyr_top.proofs.ShownLemmas.{one_map, none_opens, empty_opens, unopened_opens}
 use Rattle.cyr_top.proofs.RunLemmas.{tells_nothing}
 

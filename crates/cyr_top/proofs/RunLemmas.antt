@@ -1,5 +1,5 @@
 -- An action over the main file as it is: the file is not opened, or it is and the action is done, or a line of a check is told.
-use Rattle.std.proofs.Common.{◌≡◌, ◌⊎◌, inl, inr, ⊎_elim, ℕ, ◌≤◌, Bool, true, false, List, [], ◌∷◌, ◌++◌, Option, Some, None, Result, Err, refl, sym, ◌∙◌, ap, subst, arith}
+use Rattle.std.proofs.Common.{◌≡◌, ◌⊎◌, inl, inr, ⊎_elim, ℕ, ◌≤◌, false, List, [], Option, Some, None, Err, refl, sym, ◌∙◌, ap, subst, arith}
 use Rattle.std.proofs.lemmas.List.{append-nil}
 use Rattle.std.specs.Prelude.{IsSome, is_some, if◌then◌else◌}
 use Rattle.base_core.specs.Causes.{Rose}
@@ -24,7 +24,7 @@ use Rattle.flat_db.specs.Opening.{flat_opens, IsRefused, MayLeaveLess}
 use Rattle.flat_db.specs.Sessions.{FlatSession, FlatTied, at_rest, flat_kind, flat_state}
 use Rattle.flat_db.proofs.OpeningLemmas.{some_of}
 use Rattle.cyr_top.specs.Runs.{Runs, LeavesThen}
-use Rattle.cyr_top.specs.StatedResult.{StartsFrom, IsUnopened, Shown, ends, refused, unopened, TellsFirst, IsCutOff, ChangesNothing, IsBuilt, IsLeft, KeepsMap, ChangesMap, transactions_of, map_left, refusal_over, output_over, opening_note, unopened_note, unopened_output}
+use Rattle.cyr_top.specs.StatedResult.{IsUnopened, Shown, ends, refused, unopened, TellsFirst, IsCutOff, ChangesNothing, IsBuilt, IsLeft, KeepsMap, ChangesMap, transactions_of, map_left, refusal_over, output_over, opening_note, unopened_note, unopened_output}
 use Rattle.cyr_top.proofs.ShownLemmas.{one_map, unopened_opens, shown_once, owed_is, refusal_fits}
 
 -- nothing was told

@@ -1,5 +1,5 @@
 -- The stated note and output of an action: there is one.
-use Rattle.std.proofs.Common.{◌≡◌, ◌⊎◌, inl, inr, ℕ, ◌<◌, ◌≤◌, Bool, true, false, List, [], ◌∷◌, Option, Some, None, length, refl, sym, ◌∙◌, ap, subst, arith}
+use Rattle.std.proofs.Common.{◌≡◌, inl, inr, ℕ, Bool, true, false, List, [], ◌∷◌, Option, Some, None, length, refl, sym, ◌∙◌, ap, subst, arith}
 use Rattle.std.specs.Prelude.{nat_lt, ◌==◌, is_some, if◌then◌else◌}
 use Rattle.std.specs.Option.{option_map, option_or}
 use Rattle.base_core.specs.CrashImages.{Image}
@@ -9,14 +9,12 @@ use Rattle.base_core.specs.declared.action.Action.TheVariants.{Show, Get, Set, D
 use Rattle.base_core.specs.declared.flaw.Damage.{Damage}
 use Rattle.base_core.specs.declared.limits.TheConstants.{KEY_LIMIT, VALUE_LIMIT, FLAT_LIMIT}
 use Rattle.base_core.specs.declared.note.Note.{Note}
-use Rattle.base_core.specs.declared.note.Note.TheVariants.{Done, Answer, Usage, BadLine, Limit}
+use Rattle.base_core.specs.declared.note.Note.TheVariants.{Usage, BadLine, Limit}
 use Rattle.base_core.specs.declared.note.LimitName.TheVariants.{Key, Value, File}
-use Rattle.db_core.specs.Opening.{IsTooBig}
-use Rattle.db_core.specs.declared.fault.DbFault.{DbFault}
 use Rattle.db_core.specs.declared.fault.DbFault.TheVariants.{KeyEmpty, KeyTooLong, ValueTooLong, Full}
 use Rattle.db_core.specs.declared.fault.OpenFault.{OpenFault}
 use Rattle.db_core.specs.declared.fault.OpenFault.TheVariants.{Absent as NoFile, TooBig, NoMemory as NoRoom, DiskFault as NoDisk, Damaged as Flawed}
-use Rattle.db_tool.specs.Acting.{CanAct, owed_by, told_by, note_by, change_note, is_empty}
+use Rattle.db_tool.specs.Acting.{CanAct, owed_by, note_by, change_note, is_empty}
 use Rattle.flat_db.specs.FlatText.{FlatTextOf, IsFlawedAt, canonical_text}
 use Rattle.flat_db.specs.Opening.{flat_opens}
 use Rattle.flat_db.specs.Sessions.{at_rest, flat_kind, flat_state}

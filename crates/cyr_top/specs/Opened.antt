@@ -1,5 +1,5 @@
 -- What a crash may leave of a database, in words of maps and transactions.
-use Rattle.std.specs.Prelude.{◌≡◌, ◌⊎◌, ℕ, ◌-◌, ◌≤◌, Bool, true, [], None, length}
+use Rattle.std.specs.Prelude.{◌≡◌, ℕ, ◌-◌, ◌≤◌, Bool, true, [], None, length}
 use Rattle.base_core.specs.CrashImages.{Image, DiskState}
 use Rattle.base_core.specs.OrderedMap.{Map}
 use Rattle.base_core.specs.Transactions.{after_first}

@@ -1,5 +1,4 @@
-use Rattle.std.proofs.Common.{◌≡◌, false, codes, inl, refl, sym, ◌∙◌, ap, subst}
-use Rattle.base_core.specs.CrashImages.{Image}
+use Rattle.std.proofs.Common.{false, codes, inl, refl, sym, ◌∙◌, ap, subst}
 use Rattle.base_core.specs.declared.action.Action.TheVariants.{Consistent}
 use Rattle.base_core.specs.declared.note.Note.TheVariants.{Done, Answer}
 use Rattle.base_core.specs.HostCalls.{HostState}

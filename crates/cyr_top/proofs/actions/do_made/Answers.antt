@@ -1,4 +1,4 @@
-use Rattle.std.proofs.Common.{◌≡◌, Bool, sym, subst}
+use Rattle.std.proofs.Common.{Bool, sym, subst}
 use Rattle.base_core.specs.declared.note.Device.TheVariants.{Host}
 use Rattle.base_core.specs.declared.note.Note.TheVariants.{DeviceFault}
 use Rattle.cyr_top.specs.Runs.{Runs}

@@ -1,4 +1,4 @@
-use Rattle.std.proofs.Common.{◌-◌, take, drop, refl, sym, ◌∙◌, ap, subst}
+use Rattle.std.proofs.Common.{◌-◌, take, drop, subst}
 use Rattle.std.proofs.lemmas.List.{take-append-drop}
 use Rattle.cyr_top.specs.StatedResult.{TellsFirst}
 use Rattle.cyr_top.proofs.actions.end_with.Goals as goal

@@ -1,4 +1,4 @@
-use Rattle.std.proofs.Common.{◌≡◌, Bool, map, string_bytes}
+use Rattle.std.proofs.Common.{Bool, map, string_bytes}
 use Rattle.base_core.specs.CrashImages.{GoesOn}
 use Rattle.base_core.specs.declared.action.Action.{Action}
 use Rattle.cyr_top.specs.JobOf.{Asks}
