@@ -9,6 +9,8 @@ use Rattle.std.specs.Ordering.{nat_cmp, ordering_then, is_lt}
 use Rattle.std.specs.List.{starts_with}
 use Rattle.base_core.specs.OrderedMap.{Map, IsBelow, IsOrderedMap, key_order, with_prefix}
 use Rattle.base_core.proofs.OrderedMaps.{below_then, below_turned, key_itself}
+use Rattle.base_core.specs.declared.pair.Pair.{Pair}
+use Rattle.db_core.specs.Answers.{pair_of}
 use Rattle.db_core.specs.Sessions.{first_from, first_above}
 use Rattle.db_tool.specs.Acting.{pair_text, shown}
 
@@ -194,10 +196,18 @@ pub walk_done : (prefix : List ℕ) (m : Map) (next : Option (List ℕ × List �
 walk_done prefix m next done [] walk none = walk_over prefix m next done walk
 walk_done prefix m next done (p ∷ left) walk none = absurd (omega (arith, none))
 
--- what is left, by the pair that is looked at
-pub left_some : (prefix : List ℕ) (m : Map) (p : List ℕ × List ℕ) (done left : Map) → Walk prefix m (Some p) done left → (rest : Map) × (left ≡ p ∷ rest)
+-- what is left begins with the pair that is looked at
+left_some : (prefix : List ℕ) (m : Map) (p : List ℕ × List ℕ) (done left : Map) → Walk prefix m (Some p) done left → (rest : Map) × (left ≡ p ∷ rest)
 left_some prefix m p done [] walk = absurd (cc walk.here)
 left_some prefix m p done (q ∷ left) walk = (left, cc walk.here)
+
+pub walk_at : (prefix : List ℕ) (m : Map) (next : Option Pair) (pair : Pair) (done left : Map) → next ≡ Some pair → Walk prefix m (pair_of next) done left
+    → (rest : Map) × (left ≡ (pair.key.now, pair.value.now) ∷ rest) × Walk prefix m (Some (pair.key.now, pair.value.now)) done ((pair.key.now, pair.value.now) ∷ rest)
+walk_at prefix m next pair done left is walk =
+    let p : List ℕ × List ℕ = (pair.key.now, pair.value.now) in
+    let here = subst (λ (n : Option Pair). Walk prefix m (pair_of n) done left) is walk in
+    let rest = left_some prefix m p done left here in
+    (rest.0, rest.1, subst (λ (l : Map). Walk prefix m (Some p) done l) rest.1 here)
 
 pub left_none : (prefix : List ℕ) (m : Map) (done left : Map) → Walk prefix m None done left → left ≡ []
 left_none prefix m done [] walk = refl

@@ -121,6 +121,17 @@ pub record ToldSome (old new : HostState) (output : List ℕ) : Type 0 where
   pub whole : told ++ left ≡ output
   pub warned : new.warned ≡ old.warned
 
+-- A map was looked at: at the end all of this output was told, with this note; in place of it comes want of memory, with nothing told, or a fault of the host.
+pub record Looks (wanted : Note) (output : List ℕ) (old new : HostState) (d e : DiskState) (note : Note) : Type 0 where
+  pub ended : IsEnd note → note ≡ wanted
+  pub printed : IsEnd note → new.told ≡ told_with old.told output
+  pub refused : (IsEnd note → ⊥) → MayRefuse None note
+  pub silent : (IsEnd note → ⊥) → (IsFault note → ⊥) → new.told ≡ old.told
+  pub told : ToldSome old new output
+  pub disk : TellsOnly d e
+  pub rose : IsFault note → Rose d.faults e.faults
+  pub stood : (IsFault note → ⊥) → e.faults ≡ d.faults
+
 -- An action was done over an open database, in which no transaction stood, or was refused.
 pub record Acts (kind : DbKind) (word : ℕ) (action : Action) (s t : DbState) (old new : HostState) (d e : DiskState) (note : Note) : Type 0 where
   -- at its end all of the output was told, and the map is the one after its transaction

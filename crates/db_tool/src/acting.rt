@@ -10,7 +10,7 @@ ghost use Rattle.base_core.specs.declared.note.Note.{Note};
 ghost use Rattle.db_core.specs.Answers.{OnDisk};
 ghost use Rattle.db_core.specs.WholeTransactions.{map_after, run_after, run_refusal};
 ghost use Rattle.rand_core.specs.Stream.{next_u32};
-ghost use Rattle.db_tool.specs.Acting.{Acts, CanAct, IsChange, changes_by, value_line, pair_text, shown, told_by, note_by, lacks_key, draws_word, change_note, owed_by, IsEnd, IsFault, MayRefuse, ToldSome};
+ghost use Rattle.db_tool.specs.Acting.{Acts, CanAct, IsChange, changes_by, value_line, pair_text, shown, told_by, note_by, lacks_key, draws_word, change_note, owed_by, IsEnd, IsFault, MayRefuse, ToldSome, Looks};
 ghost use Rattle.db_tool.specs.Printing.{Prints, TellsOnly};
 
 use crate::output::Output;
@@ -84,14 +84,7 @@ fn print_line<H: Host>(output: &mut Output, host: &mut H, value: &[u8]) -> Resul
 // Prints the value of a key.
 fn get<H: Host, B: Db<H>>(alloc: Global, key: &[u8], db: &B, host: &mut H) -> Note
     requires sound { (B.state db.now).is_broken ≡ false }
-    ensures stated { IsEnd result → result ≡ (if is_some (value_at (B.state db.now).seen key.now) then Note.Done else Note.Answer) }
-    ensures whole { IsEnd result → (H.streams host.new).told ≡ told_with (H.streams host.old).told (value_line (value_at (B.state db.now).seen key.now)) }
-    ensures told { ToldSome (H.streams host.old) (H.streams host.new) (value_line (value_at (B.state db.now).seen key.now)) }
-    ensures refused { (IsEnd result → ⊥) → MayRefuse None result }
-    ensures silent { (IsEnd result → ⊥) → (IsFault result → ⊥) → (H.streams host.new).told ≡ (H.streams host.old).told }
-    ensures disk { TellsOnly (H.state host.old) (H.state host.new) }
-    ensures cause { IsFault result → Rose (H.state host.old).faults (H.state host.new).faults }
-    ensures no_fault { (IsFault result → ⊥) → (H.state host.new).faults ≡ (H.state host.old).faults }
+    ensures looks { Looks (if is_some (value_at (B.state db.now).seen key.now) then Note.Done else Note.Answer) (value_line (value_at (B.state db.now).seen key.now)) (H.streams host.old) (H.streams host.new) (H.state host.old) (H.state host.new) result }
     ensures rest { H.host_rest host.old host.new }
 {
     let Some(value) = db.fetch(key) else {
@@ -176,14 +169,7 @@ fn print_map<H: Host, B: Db<H>>(
 fn show<H: Host, B: Db<H>>(alloc: Global, prefix: &[u8], db: &B, host: &mut H) -> Note
     requires sound { (B.state db.now).is_broken ≡ false }
     requires ordered { IsOrderedMap (B.state db.now).seen }
-    ensures stated { IsEnd result → result ≡ Note.Done }
-    ensures whole { IsEnd result → (H.streams host.new).told ≡ told_with (H.streams host.old).told (shown (with_prefix (B.state db.now).seen prefix.now)) }
-    ensures told { ToldSome (H.streams host.old) (H.streams host.new) (shown (with_prefix (B.state db.now).seen prefix.now)) }
-    ensures refused { (IsEnd result → ⊥) → MayRefuse None result }
-    ensures silent { (IsEnd result → ⊥) → (IsFault result → ⊥) → (H.streams host.new).told ≡ (H.streams host.old).told }
-    ensures disk { TellsOnly (H.state host.old) (H.state host.new) }
-    ensures cause { IsFault result → Rose (H.state host.old).faults (H.state host.new).faults }
-    ensures no_fault { (IsFault result → ⊥) → (H.state host.new).faults ≡ (H.state host.old).faults }
+    ensures looks { Looks Note.Done (shown (with_prefix (B.state db.now).seen prefix.now)) (H.streams host.old) (H.streams host.new) (H.state host.old) (H.state host.new) result }
     ensures rest { H.host_rest host.old host.new }
 {
     let Ok(mut output) = Output::new(alloc) else {
