@@ -11,6 +11,7 @@ mod host;
 mod limits;
 mod note;
 mod pair;
+mod piece;
 mod reading;
 mod status;
 mod steps;
@@ -29,6 +30,7 @@ pub use limits::{
 };
 pub use note::{Device, LimitName, Note, NoteText, Outcome};
 pub use pair::{Pair, compare_keys};
+pub use piece::Piece;
 pub use reading::{ReadFault, read_whole};
 pub use status::{
     STATUS_ABSENT, STATUS_BAD_LINE, STATUS_DAMAGED, STATUS_DEVICE_FAULT, STATUS_DONE,

@@ -1,8 +1,7 @@
 // What the actions of `cyr_dbtool` do with an open database.
-ghost use Rattle.std.specs.Prelude.{◌≡◌, ◌⊎◌, ◌≤◌, ◌∷◌, ◌++◌, [], true, false, None, Some, IfOk, OnOk, is_some, if◌then◌else◌};
+ghost use Rattle.std.specs.Prelude.{◌≡◌, ◌⊎◌, ◌∷◌, ◌++◌, [], false, None, Some, IfOk, OnOk, is_some, if◌then◌else◌};
 ghost use Rattle.std.specs.Option.{option_map};
 ghost use Rattle.base_core.specs.Causes.{HasCause, Rose};
-ghost use Rattle.base_core.specs.CrashImages.{LeavesOnly};
 ghost use Rattle.base_core.specs.HostCalls.{told_with};
 ghost use Rattle.base_core.specs.Notes.{status_of};
 ghost use Rattle.base_core.specs.OrderedMap.{IsOrderedMap, value_at, with_prefix};
@@ -10,11 +9,11 @@ ghost use Rattle.base_core.specs.declared.note.Note.{Note};
 ghost use Rattle.db_core.specs.Answers.{OnDisk};
 ghost use Rattle.db_core.specs.WholeTransactions.{map_after, run_after, run_refusal};
 ghost use Rattle.rand_core.specs.Stream.{next_u32};
-ghost use Rattle.db_tool.specs.Acting.{Acts, CanAct, IsChange, changes_by, value_line, pair_text, shown, told_by, note_by, lacks_key, draws_word, change_note, owed_by, IsEnd, IsFault, MayRefuse, ToldSome, Looks};
+ghost use Rattle.db_tool.specs.Acting.{Acts, CanAct, IsChange, changes_by, value_line, pair_text, shown, lacks_key, draws_word, change_note, IsEnd, IsFault, MayRefuse, ToldSome, Looks};
 ghost use Rattle.db_tool.specs.Printing.{Prints, TellsOnly};
 
-use crate::output::Output;
-use base_core::{Action, Bytes, Device, Failed, Host, LimitName, NoMemory, Note, Outcome};
+use crate::output::{flush, print};
+use base_core::{Action, Bytes, Device, Failed, Host, LimitName, NoMemory, Note, Outcome, Piece};
 use db_core::{Change, Db, DbFault, run_changes};
 use rand_core::Rng;
 use std::alloc::Global;
@@ -51,23 +50,18 @@ fn has_no_key(action: &Action) -> bool
 }
 
 // Prints a part of a line, and the byte that ends it.
-fn print_part<H: Host>(
-    output: &mut Output,
-    host: &mut H,
-    part: &[u8],
-    end: u8,
-) -> Result<(), Failed>
+fn print_part<H: Host>(output: &mut Piece, host: &mut H, part: &[u8], end: u8) -> Result<(), Failed>
     ensures prints { Prints (H.streams host.old) (H.streams host.new) (H.state host.old) (H.state host.new) output.old output.new (part.now ++ end ∷ []) result }
     ensures rest { H.host_rest host.old host.new }
 {
-    if let Err(fault) = output.print(host, part) {
+    if let Err(fault) = print(host, part, output) {
         return Err(fault);
     }
-    output.print(host, &[end])
+    print(host, &[end], output)
 }
 
 // Prints a value and a line feed, in full before it ends.
-fn print_line<H: Host>(output: &mut Output, host: &mut H, value: &[u8]) -> Result<(), Failed>
+fn print_line<H: Host>(output: &mut Piece, host: &mut H, value: &[u8]) -> Result<(), Failed>
     requires { output.old ≡ [] }
     ensures told { ToldSome (H.streams host.old) (H.streams host.new) (value_line (Some value.now)) }
     ensures whole { OnOk result ((H.streams host.new).told ≡ told_with (H.streams host.old).told (value_line (Some value.now))) }
@@ -78,7 +72,7 @@ fn print_line<H: Host>(output: &mut Output, host: &mut H, value: &[u8]) -> Resul
     if let Err(fault) = print_part(output, host, value, b'\n') {
         return Err(fault);
     }
-    output.flush(host)
+    flush(host, output)
 }
 
 // Prints the value of a key.
@@ -90,7 +84,7 @@ fn get<H: Host, B: Db<H>>(alloc: Global, key: &[u8], db: &B, host: &mut H) -> No
     let Some(value) = db.fetch(key) else {
         return Note::Answer;
     };
-    let Ok(mut output) = Output::new(alloc) else {
+    let Ok(mut output) = Piece::new(alloc) else {
         return Note::Memory;
     };
     match print_line(&mut output, host, value) {
@@ -101,7 +95,7 @@ fn get<H: Host, B: Db<H>>(alloc: Global, key: &[u8], db: &B, host: &mut H) -> No
 
 // Prints a pair: its key, TAB, its value and a line feed.
 fn print_pair<H: Host>(
-    output: &mut Output,
+    output: &mut Piece,
     host: &mut H,
     key: &[u8],
     value: &[u8],
@@ -117,7 +111,7 @@ fn print_pair<H: Host>(
 
 // Prints the pairs whose key has the prefix.
 fn print_pairs<H: Host, B: Db<H>>(
-    output: &mut Output,
+    output: &mut Piece,
     prefix: &[u8],
     db: &B,
     host: &mut H,
@@ -145,7 +139,7 @@ fn print_pairs<H: Host, B: Db<H>>(
 
 // The same, in full before it ends.
 fn print_map<H: Host, B: Db<H>>(
-    output: &mut Output,
+    output: &mut Piece,
     prefix: &[u8],
     db: &B,
     host: &mut H,
@@ -162,7 +156,7 @@ fn print_map<H: Host, B: Db<H>>(
     if let Err(fault) = print_pairs(output, prefix, db, host) {
         return Err(fault);
     }
-    output.flush(host)
+    flush(host, output)
 }
 
 // Prints the pairs whose key has the prefix, by rising key.
@@ -172,7 +166,7 @@ fn show<H: Host, B: Db<H>>(alloc: Global, prefix: &[u8], db: &B, host: &mut H) -
     ensures looks { Looks Note.Done (shown (with_prefix (B.state db.now).seen prefix.now)) (H.streams host.old) (H.streams host.new) (H.state host.old) (H.state host.new) result }
     ensures rest { H.host_rest host.old host.new }
 {
-    let Ok(mut output) = Output::new(alloc) else {
+    let Ok(mut output) = Piece::new(alloc) else {
         return Note::Memory;
     };
     match print_map(&mut output, prefix, db, host) {

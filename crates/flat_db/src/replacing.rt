@@ -8,8 +8,8 @@ ghost use Rattle.flat_db.specs.Kept.{map_among};
 ghost use Rattle.flat_db.specs.Replacing.{Replaces, MayReplace};
 
 use crate::pairs::Pairs;
-use crate::writing::{Piece, write_pairs};
-use base_core::{Disk, Failed};
+use crate::writing::{flush, write_pairs};
+use base_core::{Disk, Failed, Piece};
 
 // Writes the new file: the canonical text of a map.
 fn write_new<D: Disk>(
@@ -26,7 +26,7 @@ fn write_new<D: Disk>(
 {
     disk.new_start()?;
     write_pairs(disk, bytes, &pairs.entries, piece)?;
-    piece.flush(disk)
+    flush(disk, piece)
 }
 
 // Puts the text of a map in the place of the main file.

@@ -12,8 +12,7 @@ ghost use Rattle.flat_db.specs.Sessions.{FlatTied, at_rest, changed, flat_kind, 
 use crate::flat_map::FlatMap;
 use crate::pairs::Pairs;
 use crate::replacing::replace;
-use crate::writing::Piece;
-use base_core::{Disk, FLAT_LIMIT, NoMemory, Pair};
+use base_core::{Disk, FLAT_LIMIT, NoMemory, Pair, Piece};
 use db_core::{Db, DbFault, pair_fault};
 use std::alloc::Global;
 use std::marker::Model;

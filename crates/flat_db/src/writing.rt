@@ -1,84 +1,24 @@
 // A map is written as its canonical text, in pieces, into the new file of a disk.
-ghost use Rattle.std.specs.Prelude.{◌≡◌, ◌<◌, ◌≤◌, ◌+◌, ◌-◌, ◌∷◌, ◌++◌, [], ℕ, List, IsSome, IfOk, OnOk, length, take, is_some};
-ghost use Rattle.std.specs.Option.{option_map};
+ghost use Rattle.std.specs.Prelude.{◌≡◌, ◌<◌, ◌≤◌, ◌+◌, ◌-◌, ◌∷◌, ◌++◌, [], IsSome, OnOk, length};
 ghost use Rattle.base_core.specs.Escapes.{escaped};
-ghost use Rattle.base_core.specs.DiskCalls.{fresh_bytes};
 ghost use Rattle.flat_db.specs.FlatText.{canonical_text, pair_line};
 ghost use Rattle.flat_db.specs.Entries.{part_of, pairs_of};
+ghost use Rattle.base_core.specs.declared.limits.TheConstants.{PIECE_SIZE};
 ghost use Rattle.flat_db.specs.Writing.{AddsBytes};
 
 use crate::entries::{Entry, part};
-use base_core::{Disk, Failed, NoMemory, PIECE_SIZE, escape_into};
-use std::alloc::Global;
-use std::marker::Model;
+use base_core::{Disk, Failed, Piece};
 
-/// What is gathered for the new file before it is written: at most `PIECE_SIZE` bytes.
-#[derive(Drop)]
-pub(crate) struct Piece {
-    bytes: Vec<u8>,
-    used: usize,
-}
-
-impl Model for Piece {
-    ghost use Rattle.std.specs.Prelude.{◌≡◌, ◌≤◌, ℕ, List, length, take};
-    ghost use Rattle.base_core.specs.declared.limits.TheConstants.{PIECE_SIZE};
-
-    ghost Value = { List ℕ };
-
-    ghost view = { λ p. take p.used p.bytes.items };
-
-    ghost invariant = { λ p. (p.used ≤ PIECE_SIZE) × (length p.bytes.items ≡ PIECE_SIZE) };
-}
-
-impl Piece {
-    pub(crate) fn new(alloc: Global) -> Result<Piece, NoMemory>
-        ensures { IfOk result (λ piece. piece ≡ []) }
-    {
-        match vec![in alloc; 0u8; PIECE_SIZE] {
-            Ok(bytes) => Ok(Piece { bytes, used: 0 }),
-            Err(_) => Err(NoMemory),
-        }
-    }
-
-    // How many bytes it can take.
-    fn room(&self) -> usize
-        ensures room { result + length self.now ≡ PIECE_SIZE }
-    {
-        PIECE_SIZE - self.used
-    }
-
-    // Adds the first bytes of a field, escaped, and answers how many.
-    fn add(&mut self, field: &[u8]) -> usize
-        requires room { length self.old + 2 ≤ PIECE_SIZE }
-        requires some { 0 < length field.now }
-        ensures added { self.new ≡ self.old ++ escaped (take result field.now) }
-        ensures bound { (0 < result) × (result ≤ length field.now) }
-    {
-        let escaped = escape_into(field, &mut self.bytes[self.used..]);
-        self.used += escaped.written;
-        escaped.read
-    }
-
-    // Adds one byte as it is.
-    fn push(&mut self, byte: u8)
-        requires { length self.old < PIECE_SIZE }
-        ensures { self.new ≡ self.old ++ byte ∷ [] }
-    {
-        self.bytes[self.used] = byte;
-        self.used += 1;
-    }
-
-    // Writes what is gathered.
-    pub(crate) fn flush<D: Disk>(&mut self, disk: &mut D) -> Result<(), Failed>
-        requires { IsSome (D.state disk.old).reads → IsSome (D.state disk.old).fresh }
-        ensures adds { AddsBytes (D.state disk.old) (D.state disk.new) self.old self.new [] result }
-        ensures empty { OnOk result (self.new ≡ []) }
-        ensures rest { D.disk_rest disk.old disk.new }
-    {
-        disk.new_write(&self.bytes[..self.used])?;
-        self.used = 0;
-        Ok(())
-    }
+// Writes what is gathered.
+pub(crate) fn flush<D: Disk>(disk: &mut D, piece: &mut Piece) -> Result<(), Failed>
+    requires { IsSome (D.state disk.old).reads → IsSome (D.state disk.old).fresh }
+    ensures adds { AddsBytes (D.state disk.old) (D.state disk.new) piece.old piece.new [] result }
+    ensures empty { OnOk result (piece.new ≡ []) }
+    ensures rest { D.disk_rest disk.old disk.new }
+{
+    disk.new_write(piece.as_slice())?;
+    piece.clear();
+    Ok(())
 }
 
 // Writes what is gathered where it leaves no room for an escape.
@@ -89,7 +29,7 @@ fn make_room<D: Disk>(disk: &mut D, piece: &mut Piece) -> Result<(), Failed>
     ensures rest { D.disk_rest disk.old disk.new }
 {
     if piece.room() < 2 {
-        return piece.flush(disk);
+        return flush(disk, piece);
     }
     Ok(())
 }
@@ -103,7 +43,7 @@ fn write_field<D: Disk>(disk: &mut D, field: &[u8], piece: &mut Piece) -> Result
     let mut at = 0;
     while at < field.len() {
         make_room(disk, piece)?;
-        at += piece.add(&field[at..]);
+        at += piece.add_escaped(&field[at..]);
     }
     Ok(())
 }

@@ -3,9 +3,9 @@ use Rattle.db_tool.proofs.PrintLemmas.{prints_then, prints_ended}
 use Rattle.db_tool.proofs.acting.print_part.Goals as goal
 
 pub returns-in-Err-clause-prints : goal.returns-in-Err-clause-prints
-returns-in-Err-clause-prints g c = prints_ended _ _ _ _ c.args.output.now c.print.new.self c.args.part.now (c.args.end ∷ []) c.in-Err.fault c.in-Err.ensures.prints
+returns-in-Err-clause-prints g c = prints_ended _ _ _ _ c.args.output.now c.print.new.output c.args.part.now (c.args.end ∷ []) c.in-Err.fault c.in-Err.ensures.prints
 
 pub returns-clause-prints : goal.returns-clause-prints
 returns-clause-prints g c =
     let on = g.met.H.Host.host_goes_on in
-    prints_then _ _ _ _ _ _ c.args.output.now c.print.new.self c.print-2.new.self c.args.part.now (c.args.end ∷ []) tt c.print-2.result (on _ _ c.print.ensures.rest) (on _ _ c.print-2.ensures.rest) c.in_default.ensures.prints c.print-2.ensures.prints
+    prints_then _ _ _ _ _ _ c.args.output.now c.print.new.output c.print-2.new.output c.args.part.now (c.args.end ∷ []) tt c.print-2.result (on _ _ c.print.ensures.rest) (on _ _ c.print-2.ensures.rest) c.in_default.ensures.prints c.print-2.ensures.prints

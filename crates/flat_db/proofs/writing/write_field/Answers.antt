@@ -26,15 +26,15 @@ loop-at-preserved g c =
     let inv = c.loop-at.invariant in
     let on = g.met.D.Disk.rest_goes_on in
     let field = c.args.field.now in
-    let bound = c.add-at.ensures.bound in
-    let within : c.loop-at.at + c.add-at.result ≤ length field = omega (arith, bound.1, ap length (take_rest field c.loop-at.at), length-drop c.loop-at.at field) in
-    let added = escaped (take c.add-at.result (take (length field - c.loop-at.at) (drop c.loop-at.at field))) in
-    let whole : (escaped (take c.loop-at.at field) ++ []) ++ added ≡ escaped (take (c.loop-at.at + c.add-at.result) field) = ap (λ (l : List ℕ). l ++ added) (append-nil (escaped (take c.loop-at.at field))) ∙ one_more field c.loop-at.at c.add-at.result within in
+    let bound = c.add_escaped-at.ensures.bound in
+    let within : c.loop-at.at + c.add_escaped-at.result ≤ length field = omega (arith, bound.1, ap length (take_rest field c.loop-at.at), length-drop c.loop-at.at field) in
+    let added = escaped (take c.add_escaped-at.result (take (length field - c.loop-at.at) (drop c.loop-at.at field))) in
+    let whole : (escaped (take c.loop-at.at field) ++ []) ++ added ≡ escaped (take (c.loop-at.at + c.add_escaped-at.result) field) = ap (λ (l : List ℕ). l ++ added) (append-nil (escaped (take c.loop-at.at field))) ∙ one_more field c.loop-at.at c.add_escaped-at.result within in
     record {
       within = within;
-      adds = subst (λ (l : List ℕ). Adds (g.D.Disk.state c.args.disk.now) (g.D.Disk.state c.make_room.new.disk) c.args.piece.now c.add-at.new.self l) whole
-          (adds_more (g.D.Disk.state c.args.disk.now) (g.D.Disk.state c.make_room.new.disk) c.args.piece.now c.make_room.new.piece c.add-at.new.self (escaped (take c.loop-at.at field) ++ []) added
+      adds = subst (λ (l : List ℕ). Adds (g.D.Disk.state c.args.disk.now) (g.D.Disk.state c.make_room.new.disk) c.args.piece.now c.add_escaped-at.new.self l) whole
+          (adds_more (g.D.Disk.state c.args.disk.now) (g.D.Disk.state c.make_room.new.disk) c.args.piece.now c.make_room.new.piece c.add_escaped-at.new.self (escaped (take c.loop-at.at field) ++ []) added
           (adds_then _ _ _ c.args.piece.now c.loop-at.piece c.make_room.new.piece (escaped (take c.loop-at.at field)) [] _ (on _ _ inv.rest) (on _ _ c.make_room.ensures.rest) inv.adds c.in_ok-make_room.ensures.adds)
-          c.add-at.ensures.added);
+          c.add_escaped-at.ensures.added);
       rest = g.met.D.Disk.rest_then _ _ _ inv.rest c.make_room.ensures.rest;
     }

@@ -1,12 +1,12 @@
 use Rattle.std.proofs.Common.{Ok, ◌≤◌, ◌-◌, length, take}
 use Rattle.db_tool.specs.Printing.{Prints}
 use Rattle.base_core.specs.declared.disk.Failed.{Failed}
-use Rattle.db_tool.proofs.output.Output.print.Given as goal
+use Rattle.db_tool.proofs.output.print.Given as goal
 
 abbrev pub invariant-loop-at : goal.invariant-loop-at
 invariant-loop-at g l = record {
   within : l.at ≤ length l.bytes;
-  prints : Prints {T = Unit {0}} {E = Failed} (g.H.Host.streams l.initial.host) (g.H.Host.streams l.host) (g.H.Disk.state l.initial.host) (g.H.Disk.state l.host) l.initial.self l.self (take l.at l.bytes) (Ok (tt {0}));
+  prints : Prints {T = Unit {0}} {E = Failed} (g.H.Host.streams l.initial.host) (g.H.Host.streams l.host) (g.H.Disk.state l.initial.host) (g.H.Disk.state l.host) l.initial.output l.output (take l.at l.bytes) (Ok (tt {0}));
   rest : g.H.Host.host_rest l.initial.host l.host;
 }
 

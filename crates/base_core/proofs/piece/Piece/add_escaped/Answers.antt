@@ -1,7 +1,7 @@
 use Rattle.std.proofs.Common.{◌≡◌, ◌<◌, ◌≤◌, ◌⊎◌, ⊎_elim, ◌+◌, ℕ, zero, suc, List, length, take, ap, arith}
 use Rattle.std.proofs.lemmas.List.{length-take-le}
 use Rattle.base_core.specs.Escapes.{escaped}
-use Rattle.flat_db.proofs.writing.Piece.add.Goals as goal
+use Rattle.base_core.proofs.piece.Piece.add_escaped.Goals as goal
 
 -- where there is room for two bytes more, one is read
 progress : (field into : List ℕ) (read written : ℕ) → 0 < length field → 2 ≤ length into → written ≤ length into → take written into ≡ escaped (take read field) → (read ≡ length field) ⊎ (length into < written + 2) → 0 < read

@@ -4,12 +4,12 @@ use Rattle.std.proofs.Math.Seq.{take-add}
 use Rattle.base_core.specs.declared.disk.Failed.{Failed}
 use Rattle.db_tool.specs.Printing.{Prints}
 use Rattle.db_tool.proofs.PrintLemmas.{prints_none, prints_then, prints_held, prints_ended}
-use Rattle.db_tool.proofs.output.Output.print.Goals as goal
+use Rattle.db_tool.proofs.output.print.Goals as goal
 
 pub loop-at-init : goal.loop-at-init
 loop-at-init g c = record {
   within = omega arith;
-  prints = prints_none (g.H.Host.streams c.args.host.now) (g.H.Disk.state c.args.host.now) c.args.self.now tt (g.met.H.Disk.is_moment _);
+  prints = prints_none (g.H.Host.streams c.args.host.now) (g.H.Disk.state c.args.host.now) c.args.output.now tt (g.met.H.Disk.is_moment _);
   rest = g.met.H.Host.host_same _;
 }
 
@@ -27,9 +27,9 @@ loop-at-preserved g c =
     let whole : (take c.loop-at.at bytes ++ []) ++ added ≡ take (c.loop-at.at + c.add-at.result) bytes = ap (λ (l : List ℕ). l ++ added) (append-nil (take c.loop-at.at bytes)) ∙ one_more bytes c.loop-at.at c.add-at.result in
     record {
       within = omega (arith, bound.1, ap length (take_rest bytes c.loop-at.at), length-drop c.loop-at.at bytes);
-      prints = subst (λ (l : List ℕ). Prints {T = Unit {0}} {E = Failed} (g.H.Host.streams c.args.host.now) (g.H.Host.streams c.make_room.new.host) (g.H.Disk.state c.args.host.now) (g.H.Disk.state c.make_room.new.host) c.args.self.now c.add-at.new.self l (Ok (tt {0}))) whole
-          (prints_held _ _ _ _ c.args.self.now c.make_room.new.self c.add-at.new.self (take c.loop-at.at bytes ++ []) added tt c.add-at.ensures.added
-          (prints_then _ _ _ _ _ _ c.args.self.now c.loop-at.self c.make_room.new.self (take c.loop-at.at bytes) [] tt (Ok (tt {0})) (on _ _ inv.rest) (on _ _ c.make_room.ensures.rest) inv.prints c.in_default.ensures.prints));
+      prints = subst (λ (l : List ℕ). Prints {T = Unit {0}} {E = Failed} (g.H.Host.streams c.args.host.now) (g.H.Host.streams c.make_room.new.host) (g.H.Disk.state c.args.host.now) (g.H.Disk.state c.make_room.new.host) c.args.output.now c.add-at.new.self l (Ok (tt {0}))) whole
+          (prints_held _ _ _ _ c.args.output.now c.make_room.new.output c.add-at.new.self (take c.loop-at.at bytes ++ []) added tt c.add-at.ensures.added
+          (prints_then _ _ _ _ _ _ c.args.output.now c.loop-at.output c.make_room.new.output (take c.loop-at.at bytes) [] tt (Ok (tt {0})) (on _ _ inv.rest) (on _ _ c.make_room.ensures.rest) inv.prints c.in_default.ensures.prints));
       rest = g.met.H.Host.host_then _ _ _ inv.rest c.make_room.ensures.rest;
     }
 
@@ -39,6 +39,6 @@ returns-in-Err-clause-prints g c =
     let on = g.met.H.Host.host_goes_on in
     let bytes = c.args.bytes.now in
     let whole : (take c.loop-at.at bytes ++ []) ++ drop c.loop-at.at bytes ≡ bytes = ap (λ (l : List ℕ). l ++ drop c.loop-at.at bytes) (append-nil (take c.loop-at.at bytes)) ∙ take-append-drop c.loop-at.at bytes in
-    subst (λ (l : List ℕ). Prints {T = Unit {0}} (g.H.Host.streams c.args.host.now) (g.H.Host.streams c.make_room.new.host) (g.H.Disk.state c.args.host.now) (g.H.Disk.state c.make_room.new.host) c.args.self.now c.make_room.new.self l (Err c.in-Err.fault)) whole
-    (prints_ended _ _ _ _ c.args.self.now c.make_room.new.self (take c.loop-at.at bytes ++ []) (drop c.loop-at.at bytes) c.in-Err.fault
-    (prints_then _ _ _ _ _ _ c.args.self.now c.loop-at.self c.make_room.new.self (take c.loop-at.at bytes) [] tt (Err c.in-Err.fault) (on _ _ inv.rest) (on _ _ c.make_room.ensures.rest) inv.prints c.in-Err.ensures.prints))
+    subst (λ (l : List ℕ). Prints {T = Unit {0}} (g.H.Host.streams c.args.host.now) (g.H.Host.streams c.make_room.new.host) (g.H.Disk.state c.args.host.now) (g.H.Disk.state c.make_room.new.host) c.args.output.now c.make_room.new.output l (Err c.in-Err.fault)) whole
+    (prints_ended _ _ _ _ c.args.output.now c.make_room.new.output (take c.loop-at.at bytes ++ []) (drop c.loop-at.at bytes) c.in-Err.fault
+    (prints_then _ _ _ _ _ _ c.args.output.now c.loop-at.output c.make_room.new.output (take c.loop-at.at bytes) [] tt (Err c.in-Err.fault) (on _ _ inv.rest) (on _ _ c.make_room.ensures.rest) inv.prints c.in-Err.ensures.prints))
