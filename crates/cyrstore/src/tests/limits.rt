@@ -176,30 +176,8 @@ fn text_of(alloc: Global, size: usize) -> Result<Vec<u8>, Fail> {
 // The size of the file, an action, the status, and what is told and warned.
 type Size = (u64, &'static str, u8, &'static str, &'static str);
 
-const WITHIN: [Size; 3] = [
-    (FLAT_LIMIT - 4, "set b 1", 0, "", ""),
-    (FLAT_LIMIT - 3, "set b 1", 70, "", "limit file: 67108865\n"),
-    (FLAT_LIMIT, "set b 1", 70, "", "limit file: 67108868\n"),
-];
-
-// A file over the limit is not read.
-const BEYOND: [Size; 6] = [
-    (FLAT_LIMIT, "consistent", 0, "consistent\n", ""),
-    (FLAT_LIMIT + 1, "set b 1", 70, "", "limit file: 67108865\n"),
-    (FLAT_LIMIT + 1, "get ", 70, "", "limit file: 67108865\n"),
-    (FLAT_LIMIT + 1, "show", 70, "", "limit file: 67108865\n"),
-    (FLAT_LIMIT + 1, "delete a", 70, "", "limit file: 67108865\n"),
-    (
-        FLAT_LIMIT + 1,
-        "consistent",
-        70,
-        "",
-        "limit file: 67108865\n",
-    ),
-];
-
-fn assert_size(rt: &impl Abort, alloc: Global, row: &Size) -> Result<(), Fail> {
-    let (size, action, status, told, warned) = *row;
+fn assert_size(rt: &impl Abort, alloc: Global, row: Size) -> Result<(), Fail> {
+    let (size, action, status, told, warned) = row;
     let text = text_of(alloc, size as usize)?;
     let mut host = large_host(alloc, &text)?;
     let words = action_words(alloc, false, action)?;
@@ -207,21 +185,44 @@ fn assert_size(rt: &impl Abort, alloc: Global, row: &Size) -> Result<(), Fail> {
     assert_eq!(rt; answer, status, "{action} of {size} bytes");
     assert_eq!(rt; host.told(), told.as_bytes());
     assert_eq!(rt; host.warned(), warned.as_bytes());
-    Ok(())
-}
-
-#[test]
-fn new_file_limit(rt: HostRuntime) -> Result<(), Fail> {
-    for row in &WITHIN {
-        assert_size(&rt, rt.alloc(), row)?;
+    if status != 0 {
+        assert!(rt; host.disk().main() == Some(text.as_slice()), "another file");
     }
     Ok(())
 }
 
+// The pair takes four bytes.
 #[test]
-fn old_file_limit(rt: HostRuntime) -> Result<(), Fail> {
-    for row in &BEYOND {
-        assert_size(&rt, rt.alloc(), row)?;
+fn longest_text_is_written(rt: HostRuntime) -> Result<(), Fail> {
+    assert_size(&rt, rt.alloc(), (FLAT_LIMIT - 4, "set b 1", 0, "", ""))
+}
+
+#[test]
+fn text_over_the_limit_is_refused(rt: HostRuntime) -> Result<(), Fail> {
+    let limit = "limit file: 67108865\n";
+    assert_size(&rt, rt.alloc(), (FLAT_LIMIT - 3, "set b 1", 70, "", limit))
+}
+
+#[test]
+fn longest_file_has_no_room(rt: HostRuntime) -> Result<(), Fail> {
+    let limit = "limit file: 67108868\n";
+    assert_size(&rt, rt.alloc(), (FLAT_LIMIT, "set b 1", 70, "", limit))
+}
+
+#[test]
+fn longest_file_is_consistent(rt: HostRuntime) -> Result<(), Fail> {
+    let told = "consistent\n";
+    assert_size(&rt, rt.alloc(), (FLAT_LIMIT, "consistent", 0, told, ""))
+}
+
+// Actions on a file over the limit, which is not read.
+const BEYOND: [&str; 3] = ["set b 1", "get ", "consistent"];
+
+#[test]
+fn file_over_the_limit_is_refused(rt: HostRuntime) -> Result<(), Fail> {
+    let limit = "limit file: 67108865\n";
+    for action in BEYOND {
+        assert_size(&rt, rt.alloc(), (FLAT_LIMIT + 1, action, 70, "", limit))?;
     }
     Ok(())
 }
