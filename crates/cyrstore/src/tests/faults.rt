@@ -6,8 +6,8 @@ use std::test::Fail;
 
 const FAULT: &str = "device fault: host\n";
 
-// An action on the file `a`, TAB, `1`, how many calls of the disk and how many tells it makes, and how it ends where none fails: the
-// status, what it tells, and the file.
+// An action, how many calls of the disk and how many tells it makes, and how it ends where none fails: the status,
+// what it tells, and the file.
 type Row = (&'static str, u64, u64, u8, &'static [u8], &'static [u8]);
 
 const FILE: &[u8] = b"a\t1\n";

@@ -173,56 +173,68 @@ fn text_of(alloc: Global, size: usize) -> Result<Vec<u8>, Fail> {
     Ok(text)
 }
 
-// The size of the file, an action, the status, and what is told and warned.
-type Size = (u64, &'static str, u8, &'static str, &'static str);
+// The size of the file, an action, the status, what is told and warned, and what is added to the file.
+type Size = (
+    u64,
+    &'static str,
+    u8,
+    &'static str,
+    &'static str,
+    &'static [u8],
+);
 
 fn assert_size(rt: &impl Abort, alloc: Global, row: Size) -> Result<(), Fail> {
-    let (size, action, status, told, warned) = row;
-    let text = text_of(alloc, size as usize)?;
+    let (size, action, status, told, warned, added) = row;
+    let mut text = text_of(alloc, size as usize)?;
     let mut host = large_host(alloc, &text)?;
     let words = action_words(alloc, false, action)?;
-    let answer = status_of(alloc, &words, &mut host);
-    assert_eq!(rt; answer, status, "{action} of {size} bytes");
+    assert_eq!(rt; status_of(alloc, &words, &mut host), status);
     assert_eq!(rt; host.told(), told.as_bytes());
     assert_eq!(rt; host.warned(), warned.as_bytes());
-    if status != 0 {
-        assert!(rt; host.disk().main() == Some(text.as_slice()), "another file");
-    }
+    text.extend_from_slice(added)?;
+    assert!(rt; host.disk().main() == Some(text.as_slice()), "another file");
     Ok(())
 }
 
-// The pair takes four bytes.
 #[test]
 fn longest_text_is_written(rt: HostRuntime) -> Result<(), Fail> {
-    assert_size(&rt, rt.alloc(), (FLAT_LIMIT - 4, "set b 1", 0, "", ""))
+    let row: Size = (FLAT_LIMIT - 4, "set b 1", 0, "", "", b"b\t1\n");
+    assert_size(&rt, rt.alloc(), row)
 }
 
 #[test]
 fn text_over_the_limit_is_refused(rt: HostRuntime) -> Result<(), Fail> {
     let limit = "limit file: 67108865\n";
-    assert_size(&rt, rt.alloc(), (FLAT_LIMIT - 3, "set b 1", 70, "", limit))
+    let row: Size = (FLAT_LIMIT - 3, "set b 1", 70, "", limit, b"");
+    assert_size(&rt, rt.alloc(), row)
 }
 
 #[test]
 fn longest_file_has_no_room(rt: HostRuntime) -> Result<(), Fail> {
     let limit = "limit file: 67108868\n";
-    assert_size(&rt, rt.alloc(), (FLAT_LIMIT, "set b 1", 70, "", limit))
+    let row: Size = (FLAT_LIMIT, "set b 1", 70, "", limit, b"");
+    assert_size(&rt, rt.alloc(), row)
 }
 
 #[test]
 fn longest_file_is_consistent(rt: HostRuntime) -> Result<(), Fail> {
-    let told = "consistent\n";
-    assert_size(&rt, rt.alloc(), (FLAT_LIMIT, "consistent", 0, told, ""))
+    let row: Size = (FLAT_LIMIT, "consistent", 0, "consistent\n", "", b"");
+    assert_size(&rt, rt.alloc(), row)
 }
 
-// Actions on a file over the limit, which is not read.
-const BEYOND: [&str; 3] = ["set b 1", "get ", "consistent"];
-
+// A file over the limit is not read, not even for an empty key.
 #[test]
 fn file_over_the_limit_is_refused(rt: HostRuntime) -> Result<(), Fail> {
-    let limit = "limit file: 67108865\n";
-    for action in BEYOND {
-        assert_size(&rt, rt.alloc(), (FLAT_LIMIT + 1, action, 70, "", limit))?;
+    let alloc = rt.alloc();
+    let text = text_of(alloc, FLAT_LIMIT as usize + 1)?;
+    let mut host = large_host(alloc, &text)?;
+    for action in ["show", "get ", "set b 1", "delete a", "consistent"] {
+        let words = action_words(alloc, false, action)?;
+        assert_eq!(rt; status_of(alloc, &words, &mut host), 70, "{action}");
     }
+    let warned = "limit file: 67108865\n".repeat(alloc, 5)?;
+    assert_eq!(rt; host.warned(), warned.as_bytes());
+    assert_eq!(rt; host.told(), b"".as_slice());
+    assert!(rt; host.disk().main() == Some(text.as_slice()), "another file");
     Ok(())
 }
