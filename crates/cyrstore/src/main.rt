@@ -2,21 +2,25 @@
 //! the words, the real devices and the process.
 #![tactic(auto)]
 
-ghost use Rattle.std.specs.Prelude.{◌≡◌, [], Some, None, IfOk, map, string_bytes};
+ghost use Rattle.std.specs.Prelude.{◌≡◌, Bool, [], Some, None, IfOk, map, string_bytes};
 ghost use Rattle.std.specs.Process.{exit_status};
 ghost use Rattle.base_core.specs.CrashImages.{Image};
+ghost use Rattle.base_core.specs.declared.action.Action.{Action};
 ghost use Rattle.base_core.specs.declared.status.TheConstants.{STATUS_DONE, STATUS_USAGE};
-ghost use Rattle.cyr_top.specs.JobOf.{job_of, main_path};
-ghost use Rattle.cyr_top.specs.StatedResult.{LeftByJob};
+ghost use Rattle.cyr_top.specs.JobOf.{job_of, Asks, main_path};
+ghost use Rattle.cyr_top.specs.StatedResult.{IsLeft};
 ghost use Rattle.cyr_top.specs.declared.jobs.Job.{Job};
 
 use base_core::{Host, NoMemory, STATUS_NO_MEMORY, Text};
 use cyr_top::{WordFault, job, paths, run};
 use disk_kinds::FileHost;
+use rand_core::Rng;
+use rand_pcg::Pcg32;
 use std::alloc::Global;
 use std::io::ErrorKind;
 use std::process::ExitCode;
 use std::rt::Env;
+use std::time::Clock;
 use std::{env, io};
 
 #[cfg(test)]
@@ -54,13 +58,21 @@ fn refused(rt: &impl Eprint, why: &str, status: u8) -> ExitCode
     ExitCode::from(status)
 }
 
+// The nanoseconds since 1970, or 0 where the clock cannot be read.
+fn nanoseconds(clock: &impl Clock) -> u64 {
+    match clock.since_1970() {
+        Ok(time) => u64::try_from(time.as_nanos()).unwrap_or(0),
+        Err(_) => 0,
+    }
+}
+
 // Runs, and ends with the run's status.
-fn ended<H: Host>(alloc: Global, words: &[String], host: &mut H) -> ExitCode
+fn ended<H: Host, R: Rng>(alloc: Global, words: &[String], host: &mut H, rng: &mut R) -> ExitCode
     ensures usage { job_of (map string_bytes words.now) ≡ None → exit_status result ≡ STATUS_USAGE }
-    ensures done { exit_status result ≡ STATUS_DONE → (c : Image) → (H.state host.new).leaves c → LeftByJob (job_of (map string_bytes words.now)) (H.state host.old).reads c }
+    ensures done { exit_status result ≡ STATUS_DONE → (make : Bool) (action : Action) → Asks (map string_bytes words.now) make action → (c : Image) → (H.state host.new).leaves c → IsLeft make action (H.state host.old) c }
     ensures rest { H.host_rest host.old host.new }
 {
-    ExitCode::from(run(alloc, words, host).status)
+    ExitCode::from(run(alloc, words, host, rng).status)
 }
 
 fn main(rt: HostRuntime) -> ExitCode {
@@ -74,6 +86,7 @@ fn main(rt: HostRuntime) -> ExitCode {
     let Ok(path) = main_path(rt.alloc(), &words) else {
         return refused(&rt, "no memory", STATUS_NO_MEMORY);
     };
+    let mut rng = Pcg32::new(nanoseconds(&rt), 0);
     let mut host = FileHost::new(rt, path);
-    ended(rt.alloc(), &words, &mut host)
+    ended(rt.alloc(), &words, &mut host, &mut rng)
 }

@@ -1,2 +1,8 @@
 // Whole runs over devices in memory.
-mod flat;
+mod cases;
+mod changing;
+mod faults;
+mod limits;
+mod making;
+mod reading;
+mod refusing;
