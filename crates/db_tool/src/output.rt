@@ -5,12 +5,15 @@ ghost use Rattle.db_tool.specs.Printing.{Prints};
 
 use base_core::{Failed, Host, Piece};
 
-/// Tells what is gathered.
+/// Tells what is gathered, if anything.
 pub(crate) fn flush<H: Host>(host: &mut H, output: &mut Piece) -> Result<(), Failed>
     ensures prints { Prints (H.streams host.old) (H.streams host.new) (H.state host.old) (H.state host.new) output.old output.new [] result }
     ensures empty { OnOk result (output.new ≡ []) }
     ensures rest { H.host_rest host.old host.new }
 {
+    if output.as_slice().is_empty() {
+        return Ok(());
+    }
     if let Err(fault) = host.tell(output.as_slice()) {
         return Err(fault);
     }

@@ -28,7 +28,7 @@ const ROWS: [Row; 8] = [
 // On an absent file with the flag: it is found absent, and the new file is started, synced and published. The empty file
 // is then opened with two calls, and checked with one.
 const MADE: [Row; 5] = [
-    ("show", 6, 1, 0, b"", b""),
+    ("show", 6, 0, 0, b"", b""),
     ("get k", 6, 0, 1, b"", b""),
     ("set k v", 10, 0, 0, b"", b"k\tv\n"),
     ("delete k", 6, 0, 0, b"", b""),
