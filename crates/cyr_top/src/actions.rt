@@ -144,7 +144,7 @@ fn do_action<H: Host, R: Rng>(alloc: Global, action: &Action, host: &mut H, rng:
 }
 
 /// Does an action over the main file, which is made first where it is absent and `make` asks for it.
-pub(crate) fn do_made<H: Host, R: Rng>(
+pub(crate) fn make_and_do<H: Host, R: Rng>(
     alloc: Global,
     make: bool,
     action: &Action,

@@ -18,7 +18,7 @@ ghost use Rattle.db_tool.specs.Acting.{IsFault};
 ghost use Rattle.flat_db.specs.Opening.{flat_opens};
 ghost use Rattle.rand_core.specs.Stream.{next_u32};
 
-use crate::actions::do_made;
+use crate::actions::make_and_do;
 use crate::{Job, WordFault, job};
 use base_core::{Host, Note, Outcome};
 use rand_core::Rng;
@@ -37,7 +37,7 @@ fn do_job<H: Host, R: Rng>(alloc: Global, job: &Job, host: &mut H, rng: &mut R) 
     ensures rest { H.host_rest host.old host.new }
 {
     let Job::Dbtool { make, action, .. } = job;
-    do_made(alloc, *make, action, host, rng)
+    make_and_do(alloc, *make, action, host, rng)
 }
 
 // Does what the words ask for.

@@ -3,7 +3,7 @@ use Rattle.base_core.specs.declared.note.Device.TheVariants.{Host}
 use Rattle.base_core.specs.declared.note.Note.TheVariants.{DeviceFault}
 use Rattle.cyr_top.specs.Runs.{Runs}
 use Rattle.cyr_top.proofs.MakeLemmas.{not_made, made_then}
-use Rattle.cyr_top.proofs.actions.do_made.Goals as goal
+use Rattle.cyr_top.proofs.actions.make_and_do.Goals as goal
 
 pub returns-in-Ok-clause-runs : goal.returns-in-Ok-clause-runs
 returns-in-Ok-clause-runs g c =
