@@ -12,8 +12,8 @@ use Rattle.db_tool.specs.Acting.{IsFault}
 use Rattle.flat_db.specs.Opening.{flat_opens}
 use Rattle.flat_db.proofs.OpeningLemmas.{some_of}
 use Rattle.cyr_top.specs.Opened.{EachOpens, StartsAt, opened, to_make, KeepsPrefix, IsNotMade}
-use Rattle.cyr_top.specs.Runs.{Runs, LeavesThen}
-use Rattle.cyr_top.specs.StatedResult.{StartsFrom, Shown, IsCutOff, ChangesNothing, IsLeft, KeepsMap, ChangesMap, map_left}
+use Rattle.cyr_top.specs.Runs.{Runs, LeavesThen, LeavesFile}
+use Rattle.cyr_top.specs.StatedResult.{StartsFrom, StatedResult, IsCutOff, IsNoChange, IsLeft, KeepsMap, ChangesMap, map_left}
 use Rattle.cyr_top.proofs.ShownLemmas.{one_map, none_opens, shown_once}
 
 -- an image of the map at the start, and one of the map after all transactions
@@ -90,13 +90,13 @@ module _ (make : Bool) (action : Action) (o p : HostState) (d e : DiskState) (no
   pub done_opens : (m : Map) → StartsAt make d m → note ≡ Done → EachOpens e (map_left m action)
   done_opens m starts is = record { each = λ c left. done_left m action c starts is (changed_opens m c starts) left (runs.done is c left) }
 
-  pub others_open : (m : Map) → StartsAt make d m → ChangesNothing note → (c : Image) → e.leaves c → flat_opens c m ⊎ ((make ≡ true) × (c ≡ None) × (note ≡ Memory))
+  pub others_open : (m : Map) → StartsAt make d m → IsNoChange note → (c : Image) → e.leaves c → flat_opens c m ⊎ ((make ≡ true) × (c ≡ None) × (note ≡ Memory))
   others_open m starts nothing c left =
       ⊎_elim (λ was. ⊎_elim inl (λ none. inr (none.0, none.1, ⊎_elim (λ failed. absurd (nothing.1 failed)) (λ memory. memory) none.2)) (was_left m c starts left was))
       (λ kept. inl (kept_opens m c starts kept)) ((runs.unchanged nothing).each c e.mark (left_at_end c left)).2
 
   -- what is stated is what is done
-  pub exactly_shown : (main : Image) → d.reads ≡ Some main → (wanted : Note) (output : List ℕ) → Shown make action main wanted output → IsCutOff note ⊎ ((note ≡ wanted) × (p.told ≡ told_with o.told output))
+  pub exactly_shown : (main : Image) → d.reads ≡ Some main → (wanted : Note) (output : List ℕ) → StatedResult make action main wanted output → IsCutOff note ⊎ ((note ≡ wanted) × (p.told ≡ told_with o.told output))
   exactly_shown main is wanted output shown =
       ⊎_elim inl (λ met. let same = shown_once make action main note wanted met.0 output met.1 shown in inr (same.0, met.2 ∙ ap (told_with o.told) same.1)) (runs.stated main is)
 
@@ -108,8 +108,12 @@ runs_still make action o p q d x e note same told runs = record {
   mark = omega (arith, runs.mark, same.mark);
   any_moment = then _ runs.any_moment;
   unchanged = λ nothing. then _ (runs.unchanged nothing);
-  unopened = λ main is fault un. then _ (runs.unopened main is fault un);
-  kept = λ none bytes is. then _ (runs.kept none bytes is);
+  silent = λ memory. told ∙ runs.silent memory;
+  unopened = λ main is fault un. file (runs.unopened main is fault un);
+  kept = λ none bytes is. file (runs.kept none bytes is);
+  checked = λ check bytes is.
+      let met = runs.checked check bytes is in
+      (same.reads ∙ met.0, record { no_more = λ c left. met.1.no_more c (same.leaves.no_more c left); no_less = λ c left. same.leaves.no_less c (met.1.no_less c left) });
   done = λ is c left. runs.done is c (same.leaves.no_more c left);
   absent = λ makes none. leaves_still d x e _ same (runs.absent makes none);
   made = λ makes none. ⊎_elim inl (λ there. inr (λ left. there (same.leaves.no_more None left))) (runs.made makes none);
@@ -121,3 +125,6 @@ runs_still make action o p q d x e note same told runs = record {
   where
     then : (Q : Image → Type 0) → LeavesThen d x Q → LeavesThen d e Q
     then Q leaves = record { each = λ c n left. let p = leaves.each c n ((same.left_since d.clock c n).0 left) in (p.0, omega (arith, p.1, same.mark), p.2) }
+
+    file : LeavesFile d x → LeavesFile d e
+    file left = record { each = then d.leaves left.each; fresh = same.fresh ∙ left.fresh; written = same.written ∙ left.written; publishes = same.publishes ∙ left.publishes }

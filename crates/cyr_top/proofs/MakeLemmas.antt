@@ -18,8 +18,8 @@ use Rattle.db_core.specs.declared.fault.OpenFault.TheVariants.{Absent as NoFile,
 use Rattle.flat_db.specs.Opening.{flat_opens}
 use Rattle.flat_db.specs.Replacing.{Replaces, MayReplace}
 use Rattle.flat_db.proofs.OpeningLemmas.{some_of}
-use Rattle.cyr_top.specs.Runs.{Runs, LeavesThen, IsMade}
-use Rattle.cyr_top.specs.StatedResult.{StartsFrom, IsUnopened, Shown, ends, refused, unopened, TellsFirst, IsLeft, KeepsMap, ChangesMap}
+use Rattle.cyr_top.specs.Runs.{Runs, LeavesThen, LeavesFile, IsMade}
+use Rattle.cyr_top.specs.StatedResult.{StartsFrom, IsUnopened, StatedResult, ends, refused, unopened, TellsFirst, IsLeft, KeepsMap, ChangesMap}
 use Rattle.cyr_top.proofs.ShownLemmas.{one_map, none_opens, empty_opens, unopened_opens}
 use Rattle.cyr_top.proofs.RunLemmas.{tells_nothing}
 
@@ -33,9 +33,9 @@ absent_by None is = refl
 absent_by (Some bytes) is = absurd (no_length bytes is)
 
 -- it was there
-pub made_before : {E : Type 0} (d e : DiskState) (size : ℕ) → ((main : Image) → d.reads ≡ Some main → IsLength main (Some size)) → KeepsMain d e → DiskCall d e → IsMade {T = Unit {0}} {E = E} d e (Ok tt)
-made_before d e size length main call = record {
-  there = λ bytes is. stays_call d e call main;
+pub made_before : {E : Type 0} (d e : DiskState) (size : ℕ) → ((main : Image) → d.reads ≡ Some main → IsLength main (Some size)) → KeepsMain d e → e.fresh ≡ d.fresh → DiskCall d e → IsMade {T = Unit {0}} {E = E} d e (Ok tt)
+made_before d e size length main fresh call = record {
+  there = λ bytes is. (stays_call d e call main, fresh);
   empty = λ is. absurd (cc (length None is));
   each = record { each = λ c n left. let pair = (stays_call d e call main).each.each c n left in (pair.0, inl pair.1) };
   mark = call.mark;
@@ -100,14 +100,14 @@ made_unopened (Some bytes) (Flawed damage) un = un
 made_unopened (Some bytes) NoRoom un = un
 made_unopened (Some bytes) NoDisk un = un
 
-shown_made : (action : Action) (main : Image) (note : Note) (output : List ℕ) → Shown false action (made_image main) note output → Shown true action main note output
+shown_made : (action : Action) (main : Image) (note : Note) (output : List ℕ) → StatedResult false action (made_image main) note output → StatedResult true action main note output
 shown_made action main note output (ends m (inl opens) free is out) = ends m (starts_made main m opens) free is out
 shown_made action main note output (ends m (inr makes) free is out) = absurd (cc makes.0)
 shown_made action main note output (refused m (inl opens) owed out) = refused m (starts_made main m opens) owed out
 shown_made action main note output (refused m (inr makes) owed out) = absurd (cc makes.0)
 shown_made action main note output (unopened fault un is out) = unopened fault (unopened_made main fault un) is out
 
-made_shown : (action : Action) (main : Image) (note : Note) (output : List ℕ) → Shown true action main note output → Shown false action (made_image main) note output
+made_shown : (action : Action) (main : Image) (note : Note) (output : List ℕ) → StatedResult true action main note output → StatedResult false action (made_image main) note output
 made_shown action main note output (ends m starts free is out) = ends m (inl (opens_made main m starts)) free is out
 made_shown action main note output (refused m starts owed out) = refused m (inl (opens_made main m starts)) owed out
 made_shown action main note output (unopened fault un is out) = unopened fault (made_unopened main fault un) is out
@@ -125,20 +125,18 @@ module _ (action : Action) (o q : HostState) (d x : DiskState) (dx : GoesOn d x)
   from_made : (c : Image) → may_be_made c → d.leaves c ⊎ KeepsMap true d.reads c
   from_made c left = ⊎_elim inl (λ new. inr (kept_made c new.0 new.1)) left
 
-  -- a file that is not opened was there
-  from_unopened : (main : Image) (fault : OpenFault) (c : Image) → d.reads ≡ Some main → IsUnopened true main fault → may_be_made c → d.leaves c
-  from_unopened main fault c is un left = ⊎_elim (λ was. was) (λ new. absurd (unopened_none main fault (cc (is, new.0)) un)) left
-    where
-      unopened_none : (i : Image) (f : OpenFault) → i ≡ None → IsUnopened true i f → ⊥
-      unopened_none i NoFile none u = u.1 refl
-      unopened_none i (TooBig size) none u = cc (none, u.there)
-      unopened_none i (Flawed damage) none u = cc (none, u.there)
-      unopened_none i NoRoom none u = u
-      unopened_none i NoDisk none u = u
-
   -- what is left of a file that was there could be left before
   from_there : (bytes : List ℕ) (c : Image) → d.reads ≡ Some (Some bytes) → may_be_made c → d.leaves c
   from_there bytes c is left = ⊎_elim (λ was. was) (λ new. cc (is, new.0)) left
+
+  -- a file that is not opened is there
+  unopened_there : (main : Image) (fault : OpenFault) → IsUnopened true main fault → (bytes : List ℕ) × (main ≡ Some bytes)
+  unopened_there None NoFile un = absurd (un.1 refl)
+  unopened_there None (TooBig size) un = absurd (cc un.there)
+  unopened_there None (Flawed damage) un = absurd (cc un.there)
+  unopened_there None NoRoom un = absurd un
+  unopened_there None NoDisk un = absurd un
+  unopened_there (Some bytes) fault un = (bytes, refl)
 
   -- the file could not be made
   pub not_made : {T E : Type 0} (fault : E) → IsMade {T = T} d x (Err fault) → HasCause {T = T} d.faults x.faults (Err fault) → Runs true action o q d x (DeviceFault Host)
@@ -148,8 +146,10 @@ module _ (action : Action) (o q : HostState) (d x : DiskState) (dx : GoesOn d x)
     mark = omega (arith, made.mark);
     any_moment = then (λ c. d.leaves c ⊎ (KeepsMap true d.reads c ⊎ ChangesMap true action d.reads c)) (λ c left. ⊎_elim inl (λ new. inr (inl (kept_made c new.0 new.1))) left);
     unchanged = λ no_fault. absurd (no_fault.1 tt);
-    unopened = λ main is f un. then d.leaves (λ c left. from_unopened main f c is un left);
-    kept = λ none bytes is. then d.leaves (λ c left. from_there bytes c is left);
+    silent = λ memory. absurd (cc memory);
+    unopened = λ main is f un. let there = unopened_there main f un in file there.0 (is ∙ ap (λ (i : Image). Some i) there.1);
+    kept = λ none bytes is. file bytes is;
+    checked = λ check bytes is. let stays = (made.there bytes is).0 in (stays.main.reads, stays.main.leaves);
     done = λ is c left. absurd (cc is);
     absent = λ makes none. record { each = λ c n left was. (made.each.each c n left).0 };
     made = λ makes none. inl (inl tt);
@@ -162,13 +162,16 @@ module _ (action : Action) (o q : HostState) (d x : DiskState) (dx : GoesOn d x)
       then : (Q : Image → Type 0) → ((c : Image) → may_be_made c → Q c) → LeavesThen d x Q
       then Q implies = record { each = λ c n left. let pair = made.each.each c n left in (omega (arith, pair.0), omega (arith, pair.0, made.mark), implies c pair.1) }
 
+      file : (bytes : List ℕ) → d.reads ≡ Some (Some bytes) → LeavesFile d x
+      file bytes is = let there = made.there bytes is in record { each = then d.leaves (λ c left. from_there bytes c is left); fresh = there.1; written = there.0.main.written; publishes = there.0.main.publishes }
+
   module _ {T E : Type 0} (v : T) (p : HostState) (e : DiskState) (note : Note) (made : IsMade {E = E} d x (Ok v)) (cause : HasCause {E = E} d.faults x.faults (Ok v)) (xe : GoesOn x e) (moment : IsMoment e) (runs : Runs false action q p x e note) where
     told_before : q.told ≡ o.told
     told_before = ap (λ (s : HostState). s.told) silent
 
     reads_made : (main : Image) → d.reads ≡ Some main → x.reads ≡ Some (made_image main)
     reads_made None is = (made.empty is).0
-    reads_made (Some bytes) is = (made.there bytes is).main.reads ∙ is
+    reads_made (Some bytes) is = (made.there bytes is).0.main.reads ∙ is
 
     left_made : (c : Image) → x.leaves c → may_be_made c
     left_made c left = (made.each.each c x.mark (moment_x.earlier d.clock x.clock c x.mark dx.later (omega arith) (moment_x.counts_now c left))).1
@@ -209,6 +212,17 @@ module _ (action : Action) (o q : HostState) (d x : DiskState) (dx : GoesOn d x)
     is_there none c left absent = ⊎_elim (λ was. let only = (made.empty none).1.only c was in let is = (made.empty none).0 in cc (sym only ∙ is, absent))
         (λ opens. ⊎_elim (λ kept. none_opens c kept.2 absent kept.4) (λ changed. none_opens c _ absent changed.4) opens) left
 
+    -- a file that was there is as the action leaves it
+    file_then : (bytes : List ℕ) → d.reads ≡ Some (Some bytes) → LeavesFile x e → LeavesFile d e
+    file_then bytes is file =
+        let there = made.there bytes is in
+        record {
+          each = both d.leaves _ (λ c left. from_there bytes c is left) (λ c left. from_there bytes c is (left_made c left)) file.each;
+          fresh = file.fresh ∙ there.1;
+          written = file.written ∙ there.0.main.written;
+          publishes = file.publishes ∙ there.0.main.publishes;
+        }
+
     pub made_then : Runs true action o p d e note
     made_then = record {
       stated = λ main is. ⊎_elim inl (λ met. inr (met.0, shown_made action main note met.0 met.1, met.2 ∙ ap (λ (l : Option (List ℕ)). told_with l met.0) told_before)) (runs.stated (made_image main) (reads_made main is));
@@ -219,9 +233,15 @@ module _ (action : Action) (o q : HostState) (d x : DiskState) (dx : GoesOn d x)
           (λ c left. ⊎_elim (λ was. ⊎_elim inl (λ kept. inr (inl kept)) (from_made c (left_made c was))) (λ opens. ⊎_elim (λ kept. inr (inl (keeps c kept))) (λ changed. inr (inr (changes c changed))) opens) left) runs.any_moment;
       unchanged = λ nothing. both (λ c. d.leaves c ⊎ KeepsMap true d.reads c) _ from_made
           (λ c left. ⊎_elim (λ was. from_made c (left_made c was)) (λ kept. inr (keeps c kept)) left) (runs.unchanged nothing);
-      unopened = λ main is fault un. both d.leaves _ (λ c left. from_unopened main fault c is un left) (λ c left. from_unopened main fault c is un (left_made c left))
-          (runs.unopened (made_image main) (reads_made main is) fault (made_unopened main fault un));
-      kept = λ none bytes is. both d.leaves _ (λ c left. from_there bytes c is left) (λ c left. from_there bytes c is (left_made c left)) (runs.kept none bytes (reads_made (Some bytes) is));
+      silent = λ memory. runs.silent memory ∙ told_before;
+      unopened = λ main is fault un.
+          let there = unopened_there main fault un in
+          file_then there.0 (is ∙ ap (λ (i : Image). Some i) there.1) (runs.unopened (made_image main) (reads_made main is) fault (made_unopened main fault un));
+      kept = λ none bytes is. file_then bytes is (runs.kept none bytes (reads_made (Some bytes) is));
+      checked = λ check bytes is.
+          let stays = (made.there bytes is).0 in
+          let met = runs.checked check bytes (reads_made (Some bytes) is) in
+          (met.0 ∙ stays.main.reads, record { no_more = λ c left. stays.main.leaves.no_more c (met.1.no_more c left); no_less = λ c left. met.1.no_less c (stays.main.leaves.no_less c left) });
       done = λ is c left. done_made action c changes (runs.done is c left);
       absent = λ makes none. each_then d x e (λ c n. c ≡ None → n ≡ d.mark) dx xe
           (record { each = λ c n left was. (made.each.each c n left).0 })

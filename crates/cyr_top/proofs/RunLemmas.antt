@@ -3,7 +3,7 @@ use Rattle.std.proofs.Common.{◌≡◌, ◌⊎◌, inl, inr, ⊎_elim, ℕ, ◌
 use Rattle.std.proofs.lemmas.List.{append-nil}
 use Rattle.std.specs.Prelude.{IsSome, is_some, if◌then◌else◌}
 use Rattle.base_core.specs.Causes.{Rose}
-use Rattle.base_core.specs.CrashImages.{Image, DiskState, GoesOn, LeavesOnly, IsMoment}
+use Rattle.base_core.specs.CrashImages.{Image, DiskState, GoesOn, LeavesOnly, LeavesSame, IsMoment}
 use Rattle.base_core.specs.HostCalls.{HostState, told_with}
 use Rattle.base_core.specs.OrderedMap.{Map}
 use Rattle.base_core.specs.Time.{goes_then}
@@ -15,16 +15,17 @@ use Rattle.base_core.specs.declared.note.Note.TheVariants.{Done, Answer, Usage, 
 use Rattle.base_core.specs.declared.note.Device.TheVariants.{Host, Second, Spool, Input}
 use Rattle.base_core.proofs.Moments.{each_then, where_told}
 use Rattle.db_core.specs.Opening.{HasOpenCause}
+use Rattle.db_core.specs.Sessions.{DbState}
 use Rattle.db_core.specs.WholeTransactions.{map_after}
 use Rattle.db_core.specs.declared.fault.OpenFault.{OpenFault}
 use Rattle.db_core.specs.declared.fault.OpenFault.TheVariants.{Absent as NoFile, TooBig, NoMemory as NoRoom, DiskFault as NoDisk, Damaged as Flawed}
-use Rattle.db_tool.specs.Acting.{Acts, CanAct, changes_by, owed_by, output_by, told_by, note_by, IsEnd, IsFault, MayRefuse}
+use Rattle.db_tool.specs.Acting.{Acts, CanAct, changes_by, session_after, owed_by, output_by, told_by, note_by, IsEnd, IsFault, MayRefuse}
 use Rattle.db_tool.specs.Printing.{TellsOnly}
 use Rattle.flat_db.specs.Opening.{flat_opens, IsRefused, MayLeaveLess}
 use Rattle.flat_db.specs.Sessions.{FlatSession, FlatTied, at_rest, flat_kind, flat_state}
 use Rattle.flat_db.proofs.OpeningLemmas.{some_of}
-use Rattle.cyr_top.specs.Runs.{Runs, LeavesThen}
-use Rattle.cyr_top.specs.StatedResult.{IsUnopened, Shown, ends, refused, unopened, TellsFirst, IsCutOff, ChangesNothing, IsBuilt, IsLeft, KeepsMap, ChangesMap, transactions_of, map_left, refusal_over, output_over, opening_note, unopened_note, unopened_output}
+use Rattle.cyr_top.specs.Runs.{Runs, LeavesThen, LeavesFile}
+use Rattle.cyr_top.specs.StatedResult.{IsUnopened, StatedResult, ends, refused, unopened, TellsFirst, IsCutOff, IsNoChange, IsBuilt, IsLeft, KeepsMap, ChangesMap, transactions_of, map_left, refusal_over, output_over, opening_note, unopened_note, unopened_output}
 use Rattle.cyr_top.proofs.ShownLemmas.{one_map, unopened_opens, shown_once, owed_is, refusal_fits}
 
 -- nothing was told
@@ -87,9 +88,13 @@ stood_for NoRoom flaw is cause = absurd (cc is)
 stood_for NoDisk flaw is cause = absurd (cc is)
 
 module _ {T : Type 0} (action : Action) (o p : HostState) (d e : DiskState) (fault : OpenFault) (plain : IsPlain action fault)
-    (less : MayLeaveLess d e) (silent : p ≡ o) (refusal : (main : Image) → d.reads ≡ Some main → IsRefused main fault) (cause : HasOpenCause {T = T} d.faults e.faults (Err fault)) where
+    (less : MayLeaveLess d e) (silent : p ≡ o) (refusal : (main : Image) → d.reads ≡ Some main → IsRefused main fault) (cause : HasOpenCause {T = T} d.faults e.faults (Err fault))
+    (still : action ≡ Consistent → (e.reads ≡ d.reads) × LeavesSame d e) where
   each_before : (Q : Image → Type 0) → ((c : Image) → d.leaves c → Q c) → LeavesThen d e Q
   each_before Q implies = record { each = λ c n left. let pair = less.each.each c n left in (omega (arith, pair.0), omega (arith, pair.0, less.mark), implies c pair.1) }
+
+  file_before : LeavesFile d e
+  file_before = record { each = each_before d.leaves (λ c left. left); fresh = less.fresh; written = less.written; publishes = less.publishes }
 
   states : (f : OpenFault) → fault ≡ f → (main : Image) → IsRefused main f → IsCutOff (opening_note f) ⊎ IsUnopened false main f
   states NoFile is main un = inr (un, λ makes. cc makes)
@@ -122,12 +127,14 @@ module _ {T : Type 0} (action : Action) (o p : HostState) (d e : DiskState) (fau
   pub not_opened : Runs false action o p d e (opening_note fault)
   not_opened = record {
     stated = λ main is. ⊎_elim inl (λ un. inr ([], unopened fault un (sym plain.0) (sym plain.1), ap (λ (s : HostState). s.told) silent ∙ told_nothing o.told)) (states fault refl main (refusal main is));
+    silent = λ memory. ap (λ (s : HostState). s.told) silent;
     told = λ main is wanted output shown. tells_nothing o.told p.told output (ap (λ (s : HostState). s.told) silent);
     mark = omega (arith, less.mark);
     any_moment = each_before (λ c. d.leaves c ⊎ (KeepsMap false d.reads c ⊎ ChangesMap false action d.reads c)) (λ c left. inl left);
     unchanged = λ not_so. each_before (λ c. d.leaves c ⊎ KeepsMap false d.reads c) (λ c left. inl left);
-    unopened = λ main is f un. each_before d.leaves (λ c left. left);
-    kept = λ none bytes is. each_before d.leaves (λ c left. left);
+    unopened = λ main is f un. file_before;
+    kept = λ none bytes is. file_before;
+    checked = λ is bytes there. still is;
     done = λ is c left. absurd ((is_note fault).2 is);
     absent = λ makes is. absurd (cc makes);
     made = λ makes is. absurd (cc makes);
@@ -140,13 +147,16 @@ module _ {T : Type 0} (action : Action) (o p : HostState) (d e : DiskState) (fau
 -- ---- a line of a check is told
 
 module _ (o q p : HostState) (d x e : DiskState) (note result : Note) (line : List ℕ) (dx : GoesOn d x) (xe : GoesOn x e) (less : MayLeaveLess d x) (silent : q ≡ o) (same : x.faults ≡ d.faults)
-    (shown : (main : Image) → d.reads ≡ Some main → Shown false Consistent main note line) (fits : IsBuilt note × (note ≡ Usage → ⊥))
+    (shown : (main : Image) → d.reads ≡ Some main → StatedResult false Consistent main note line) (fits : IsBuilt note × (note ≡ Usage → ⊥)) (known : note ≡ Memory → ⊥) (still : (x.reads ≡ d.reads) × LeavesSame d x)
     (whole : IsFault result ⊎ ((result ≡ note) × (p.told ≡ told_with q.told line))) (first : TellsFirst q.told p.told line) (tells : TellsOnly x e)
     (rose : IsFault result → Rose x.faults e.faults) (stood : (IsFault result → ⊥) → e.faults ≡ x.faults) where
   before : (Q : Image → Type 0) → ((c : Image) → d.leaves c → Q c) → LeavesThen d e Q
   before Q implies = each_then d x e (λ c n. (d.mark ≤ n) × (n ≤ e.mark) × Q c) dx xe
       (record { each = λ c n left. let pair = less.each.each c n left in (omega (arith, pair.0), omega (arith, pair.0, less.mark, tells.mark), implies c pair.1) })
       (record { each = λ c n left. let pair = tells.each.each c n left in (omega (arith, pair.1, less.mark), pair.2, implies c (less.leaves c pair.0)) })
+
+  file_told : LeavesFile d e
+  file_told = record { each = before d.leaves (λ c left. left); fresh = tells.keeps.fresh ∙ less.fresh; written = tells.keeps.written ∙ less.written; publishes = tells.keeps.publishes ∙ less.publishes }
 
   as_told : q.told ≡ o.told
   as_told = ap (λ (s : HostState). s.told) silent
@@ -157,15 +167,17 @@ module _ (o q p : HostState) (d x e : DiskState) (note result : Note) (line : Li
   pub line_told : Runs false Consistent o p d e result
   line_told = record {
     stated = λ main is. ⊎_elim (λ failed. inl (inl failed))
-        (λ met. inr (line, subst (λ (n : Note). Shown false Consistent main n line) (sym met.0) (shown main is), met.1 ∙ ap (λ (l : Option (List ℕ)). told_with l line) as_told)) whole;
+        (λ met. inr (line, subst (λ (n : Note). StatedResult false Consistent main n line) (sym met.0) (shown main is), met.1 ∙ ap (λ (l : Option (List ℕ)). told_with l line) as_told)) whole;
     told = λ main is wanted output wants.
         let same_line : line ≡ output = (shown_once false Consistent main note wanted line output (shown main is) wants).1 in
         subst (λ (l : List ℕ). TellsFirst o.told p.told l) same_line (subst (λ (l : Option (List ℕ)). TellsFirst l p.told line) as_told first);
+    silent = λ memory. ⊎_elim (λ failed. absurd (subst IsFault memory failed)) (λ met. absurd (known (sym met.0 ∙ memory))) whole;
     mark = omega (arith, less.mark, tells.mark);
     any_moment = before (λ c. d.leaves c ⊎ (KeepsMap false d.reads c ⊎ ChangesMap false Consistent d.reads c)) (λ c left. inl left);
     unchanged = λ not_so. before (λ c. d.leaves c ⊎ KeepsMap false d.reads c) (λ c left. inl left);
-    unopened = λ main is f un. before d.leaves (λ c left. left);
-    kept = λ none bytes is. before d.leaves (λ c left. left);
+    unopened = λ main is f un. file_told;
+    kept = λ none bytes is. file_told;
+    checked = λ is bytes there. (tells.keeps.reads ∙ still.0, record { no_more = λ c left. still.1.no_more c (tells.keeps.leaves.no_more c left); no_less = λ c left. tells.keeps.leaves.no_less c (still.1.no_less c left) });
     done = λ is c left. inl (less.leaves c (tells.keeps.leaves.no_more c left));
     absent = λ makes is. absurd (cc makes);
     made = λ makes is. absurd (cc makes);
@@ -187,6 +199,17 @@ changes_leave word m Consistent can = absurd can
 changes_leave word m Repack can = absurd can
 changes_leave word m Batch can = absurd can
 changes_leave word m (Exercise rounds) can = absurd can
+
+-- the session at the end of an action has this map
+after_left : (word : ℕ) (m : Map) (action : Action) (s : DbState) → CanAct action → s ≡ session_after flat_kind (flat_state (at_rest m)) word action → (s.committed ≡ map_left m action) × (s.is_broken ≡ false)
+after_left word m (Show prefix) s can is = (ap (λ (t : DbState). t.committed) is, ap (λ (t : DbState). t.is_broken) is)
+after_left word m (Get key) s can is = (ap (λ (t : DbState). t.committed) is, ap (λ (t : DbState). t.is_broken) is)
+after_left word m (Set key value) s can is = (ap (λ (t : DbState). t.committed) is, ap (λ (t : DbState). t.is_broken) is)
+after_left word m (Delete key) s can is = (ap (λ (t : DbState). t.committed) is, ap (λ (t : DbState). t.is_broken) is)
+after_left word m Consistent s can is = absurd can
+after_left word m Repack s can is = absurd can
+after_left word m Batch s can is = absurd can
+after_left word m (Exercise rounds) s can is = absurd can
 
 -- only a search answers, and it changes nothing
 answers_leave : (m : Map) (action : Action) → CanAct action → Answer ≡ note_by action m → map_left m action ≡ m
@@ -282,10 +305,15 @@ module _ (word : ℕ) (action : Action) (can : CanAct action) (o q p : HostState
   no_changes Batch none = refl
   no_changes (Exercise rounds) none = refl
 
-  only_told : TellsOnly x e → LeavesThen d e d.leaves
-  only_told tells = each_then d x e (λ c n. (d.mark ≤ n) × (n ≤ e.mark) × d.leaves c) dx xe
-      (record { each = λ c n left. let pair = less.each.each c n left in (omega (arith, pair.0), omega (arith, pair.0, less.mark, tells.mark), pair.1) })
-      (record { each = λ c n left. let pair = tells.each.each c n left in (omega (arith, pair.1, less.mark), pair.2, less.leaves c pair.0) })
+  only_told : TellsOnly x e → LeavesFile d e
+  only_told tells = record {
+    each = each_then d x e (λ c n. (d.mark ≤ n) × (n ≤ e.mark) × d.leaves c) dx xe
+        (record { each = λ c n left. let pair = less.each.each c n left in (omega (arith, pair.0), omega (arith, pair.0, less.mark, tells.mark), pair.1) })
+        (record { each = λ c n left. let pair = tells.each.each c n left in (omega (arith, pair.1, less.mark), pair.2, less.leaves c pair.0) });
+    fresh = tells.keeps.fresh ∙ less.fresh;
+    written = tells.keeps.written ∙ less.written;
+    publishes = tells.keeps.publishes ∙ less.publishes;
+  }
 
   -- each image opens to the map that was read, where nothing was changed
   still : (IsSome d.reads → LeavesOnly x e (λ c n. flat_opens c m)) → LeavesThen d e (λ c. d.leaves c ⊎ KeepsMap false d.reads c)
@@ -300,7 +328,7 @@ module _ (word : ℕ) (action : Action) (can : CanAct action) (o q p : HostState
   how : Ended (owed_by flat_kind (flat_state (at_rest m)) word action) note
   how = how_ended _ note acts.refused
 
-  nothing_changed : Ended (owed_by flat_kind (flat_state (at_rest m)) word action) note → ChangesNothing note → LeavesThen d e (λ c. d.leaves c ⊎ KeepsMap false d.reads c)
+  nothing_changed : Ended (owed_by flat_kind (flat_state (at_rest m)) word action) note → IsNoChange note → LeavesThen d e (λ c. d.leaves c ⊎ KeepsMap false d.reads c)
   nothing_changed (was_done is end) not_so = absurd (not_so.0 is)
   nothing_changed (was_answered is end) not_so = still (λ some. answered_still is end)
   nothing_changed (was_cut_off is not_end) not_so = still (λ some. acts.kept not_end not_so.1)
@@ -312,14 +340,14 @@ module _ (word : ℕ) (action : Action) (can : CanAct action) (o q p : HostState
   printed : IsEnd note → p.told ≡ told_with o.told (output_over m action)
   printed end = acts.printed end ∙ ap (λ (l : Option (List ℕ)). told_with l (told_by action m)) told_before ∙ ap (told_with o.told) (sym (acted_output m action can))
 
-  shows : (main : Image) → d.reads ≡ Some main → Ended (owed_by flat_kind (flat_state (at_rest m)) word action) note → IsCutOff note ⊎ ((output : List ℕ) × Shown false action main note output × (p.told ≡ told_with o.told output))
+  shows : (main : Image) → d.reads ≡ Some main → Ended (owed_by flat_kind (flat_state (at_rest m)) word action) note → IsCutOff note ⊎ ((output : List ℕ) × StatedResult false action main note output × (p.told ≡ told_with o.told output))
   shows main is (was_done same_note end) = inr (output_over m action, ends m (inl (read main is)) (free end) (acts.ended end).1 refl, printed end)
   shows main is (was_answered same_note end) = inr (output_over m action, ends m (inl (read main is)) (free end) (acts.ended end).1 refl, printed end)
   shows main is (was_cut_off cut not_end) = inl cut
   shows main is (was_owed owes not_end no_fault) = inr ([], refused m (inl (read main is)) (sym owed ∙ owes) refl, acts.silent not_end no_fault ∙ told_before ∙ told_nothing o.told)
 
   -- the stated output is what the action is to print
-  stated_output : (main : Image) (wanted : Note) (output : List ℕ) → d.reads ≡ Some main → Shown false action main wanted output → output ≡ output_by flat_kind (flat_state (at_rest m)) word action
+  stated_output : (main : Image) (wanted : Note) (output : List ℕ) → d.reads ≡ Some main → StatedResult false action main wanted output → output ≡ output_by flat_kind (flat_state (at_rest m)) word action
   stated_output main wanted output is (ends n (inl opens) none_owed note_is out) =
       out ∙ ap (λ (k : Map). output_over k action) (one_map main n m opens (read main is)) ∙ acted_output m action can
       ∙ ap (λ (r : Option Note). if is_some r then [] else told_by action m) (sym (owed ∙ ap (λ (k : Map). refusal_over k action) (one_map main m n (read main is) opens) ∙ none_owed))
@@ -342,19 +370,21 @@ module _ (word : ℕ) (action : Action) (can : CanAct action) (o q p : HostState
   left_done : note ≡ Done → (c : Image) → e.leaves c → IsLeft false action d c
   left_done is c left =
       let end : IsEnd note = subst IsEnd (sym is) tt in
-      let made = acts.made end in
+      let made = after_left word m action (flat_state now) can (acts.made end) in
       let some = de.telling.0 (moment.tells e.clock c e.mark (moment.counts_now c left)) in
-      acted_left action d c can (changes c some (subst (flat_opens c) (made.0 ∙ changes_leave word m action can) (tied.leaves made.1 c left)))
+      acted_left action d c can (changes c some (subst (flat_opens c) made.0 (tied.leaves made.1 c left)))
 
   pub acted : Runs false action o p d e note
   acted = record {
     stated = λ main is. shows main is how;
+    silent = λ memory. acts.silent (subst (λ (n : Note). IsEnd n → ⊥) (sym memory) (λ end. end)) (subst (λ (n : Note). IsFault n → ⊥) (sym memory) (λ failed. failed)) ∙ told_before;
     told = λ main is wanted output shown. subst (λ (l : List ℕ). TellsFirst o.told p.told l) (sym (stated_output main wanted output is shown)) tells_first;
     mark = omega (arith, less.mark, acts.mark);
     any_moment = any;
     unchanged = nothing_changed how;
     unopened = λ main is fault un. absurd (unopened_opens false main fault m un (read main is));
-    kept = λ none bytes is. only_told (acts.tells (no_changes action none));
+    kept = λ none bytes is. only_told (acts.tells (no_changes action none)).0;
+    checked = λ is bytes there. absurd (subst CanAct is can);
     done = left_done;
     absent = λ makes is. absurd (cc makes);
     made = λ makes is. absurd (cc makes);

@@ -19,7 +19,7 @@ use Rattle.flat_db.specs.FlatText.{FlatTextOf, IsFlawedAt, canonical_text}
 use Rattle.flat_db.specs.Opening.{flat_opens}
 use Rattle.flat_db.specs.Sessions.{at_rest, flat_kind, flat_state}
 use Rattle.flat_db.proofs.TextLaws.{text_is_one_map, first_flaw_is_one, flaw_or_map}
-use Rattle.cyr_top.specs.StatedResult.{StartsFrom, IsUnopened, Shown, ends, refused, unopened, IsBuilt, refusal_over, size_refusal, output_over, unopened_note, unopened_output}
+use Rattle.cyr_top.specs.StatedResult.{StartsFrom, IsUnopened, StatedResult, ends, refused, unopened, IsBuilt, refusal_over, size_refusal, output_over, unopened_note, unopened_output}
 
 -- ---- what an image opens to
 
@@ -86,7 +86,7 @@ unopened_once make main (Flawed damage) NoDisk one other = absurd other
 
 -- ---- what is stated is stated once
 
-pub shown_once : (make : Bool) (action : Action) (main : Image) (note wanted : Note) (told output : List ℕ) → Shown make action main note told → Shown make action main wanted output → (note ≡ wanted) × (told ≡ output)
+pub shown_once : (make : Bool) (action : Action) (main : Image) (note wanted : Note) (told output : List ℕ) → StatedResult make action main note told → StatedResult make action main wanted output → (note ≡ wanted) × (told ≡ output)
 shown_once make action main note wanted told output (ends m starts free is out) (ends n starts_too free_too is_too out_too) =
     let same = starts_once make main m n starts starts_too in
     (is ∙ ap (note_by action) same ∙ sym is_too, out ∙ ap (λ (o : Map). output_over o action) same ∙ sym out_too)

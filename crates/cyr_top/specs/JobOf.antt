@@ -6,6 +6,7 @@ use Rattle.std.specs.Str.{bytes_eq}
 use Rattle.base_core.specs.declared.action.Backend.TheVariants.{Flat}
 use Rattle.base_core.specs.declared.action.Action.{Action}
 use Rattle.base_core.specs.declared.action.Action.TheVariants.{Show, Get, Set, Delete, Consistent}
+use Rattle.db_tool.specs.Acting.{CanAct}
 use Rattle.cyr_top.specs.declared.jobs.Job.{Job}
 use Rattle.cyr_top.specs.declared.jobs.Job.TheVariants.{Dbtool}
 
@@ -41,14 +42,10 @@ job_of (tool ∷ flag ∷ words) =
     if bytes_eq tool (codes "cyr_dbtool") then (if is_make_flag flag then database_job true words else database_job false (flag ∷ words)) else None
 job_of words = None
 
--- the actions that are built
+-- the actions that are built: those over an open database, and the check of a file
 abbrev pub CanDo : Action → Type 0
-CanDo (Show prefix) = Unit {0}
-CanDo (Get key) = Unit {0}
-CanDo (Set key value) = Unit {0}
-CanDo (Delete key) = Unit {0}
 CanDo Consistent = Unit {0}
-CanDo action = ⊥
+CanDo action = CanAct action
 
 -- a job that words stand for is one of a built action over a flat file
 abbrev pub IsBuiltJob : Job → Type 0

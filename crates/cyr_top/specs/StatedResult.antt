@@ -88,10 +88,10 @@ unopened_output Consistent (Flawed damage) = flaw_line damage
 unopened_output action fault = []
 
 -- The stated note and output of an action, by what the main file reads.
-pub data Shown (make : Bool) (action : Action) (main : Image) (note : Note) (output : List ℕ) : Type 0 where
-  ends : (m : Map) → StartsFrom make main m → refusal_over m action ≡ None → note ≡ note_by action m → output ≡ output_over m action → Shown make action main note output
-  refused : (m : Map) → StartsFrom make main m → refusal_over m action ≡ Some note → output ≡ [] → Shown make action main note output
-  unopened : (fault : OpenFault) → IsUnopened make main fault → note ≡ unopened_note action fault → output ≡ unopened_output action fault → Shown make action main note output
+pub data StatedResult (make : Bool) (action : Action) (main : Image) (note : Note) (output : List ℕ) : Type 0 where
+  ends : (m : Map) → StartsFrom make main m → refusal_over m action ≡ None → note ≡ note_by action m → output ≡ output_over m action → StatedResult make action main note output
+  refused : (m : Map) → StartsFrom make main m → refusal_over m action ≡ Some note → output ≡ [] → StatedResult make action main note output
+  unopened : (fault : OpenFault) → IsUnopened make main fault → note ≡ unopened_note action fault → output ≡ unopened_output action fault → StatedResult make action main note output
 
 -- some first bytes of the output were told
 abbrev pub TellsFirst : Option (List ℕ) → Option (List ℕ) → List ℕ → Type 0
@@ -118,9 +118,9 @@ IsLeft make action start c = ChangesMap make action start.reads c
 abbrev pub IsCutOff : Note → Type 0
 IsCutOff note = IsFault note ⊎ (note ≡ Memory)
 
--- the action was refused, or answered that there is nothing
-abbrev pub ChangesNothing : Note → Type 0
-ChangesNothing note = (note ≡ Done → ⊥) × (IsFault note → ⊥)
+-- a note with which nothing was changed: any but that of an action that is done, and of a fault
+abbrev pub IsNoChange : Note → Type 0
+IsNoChange note = (note ≡ Done → ⊥) × (IsFault note → ⊥)
 
 -- The notes of the actions that are built. Of the devices only the host is used.
 abbrev pub IsBuilt : Note → Type 0

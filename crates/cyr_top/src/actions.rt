@@ -13,20 +13,16 @@ ghost use Rattle.db_tool.specs.Printing.{TellsOnly};
 ghost use Rattle.rand_core.specs.Stream.{next_u32};
 
 use arrayvec::ArrayString;
-use base_core::{Action, Damage, Device, Failed, Host, LimitName, Note};
+use base_core::{Action, Damage, Failed, Host, LimitName, Note};
 use db_core::OpenFault;
-use db_tool::act;
+use db_tool::{HOST_FAULT, act};
 use flat_db::{check_db, create, open_db};
 use itoa::Buffer;
 use rand_core::Rng;
 use std::alloc::Global;
 
-const HOST_FAULT: Note = Note::DeviceFault {
-    device: Device::Host,
-};
-
-/// The longest line of a check, in bytes: `not consistent: ` and ` at ` and a line feed, a flaw's name, and a number.
-const CHECK_LINE_LENGTH: usize = 64;
+/// Room for the longest line of a check, in bytes: 21 fixed ones, a flaw's name of up to 9, and a number of up to 20.
+const CHECK_LINE_ROOM: usize = 64;
 
 // Makes the main file, without a byte, where it is absent.
 fn make_absent<H: Host>(host: &mut H) -> Result<(), Failed>
@@ -69,7 +65,7 @@ fn flaw_of(fault: OpenFault) -> Option<Damage>
 }
 
 // The line of a check that met a flaw. It takes no memory.
-fn line_of_flaw(damage: Damage) -> ArrayString<CHECK_LINE_LENGTH>
+fn line_of_flaw(damage: Damage) -> ArrayString<CHECK_LINE_ROOM>
     ensures { result.bytes ≡ flaw_line damage }
 {
     let mut buffer = Buffer::new();

@@ -1,5 +1,5 @@
 // The top call: words, the host's files and streams in, the status and its note out.
-ghost use Rattle.std.specs.Prelude.{◌≡◌, ◌⊎◌, ◌↔◌, ℕ, Bool, true, List, [], Some, None, map, string_bytes};
+ghost use Rattle.std.specs.Prelude.{◌≡◌, ◌⊎◌, ◌↔◌, ℕ, Bool, true, List, Some, None, map, string_bytes};
 ghost use Rattle.base_core.specs.Causes.{Rose};
 ghost use Rattle.base_core.specs.CrashImages.{Image, LeavesOnly, SameDisk};
 ghost use Rattle.base_core.specs.HostCalls.{told_with};
@@ -8,36 +8,29 @@ ghost use Rattle.base_core.specs.declared.action.Backend.TheVariants.{Flat};
 ghost use Rattle.base_core.specs.declared.note.Note.{Note};
 ghost use Rattle.base_core.specs.Notes.{note_text, status_of};
 ghost use Rattle.base_core.specs.OrderedMap.{Map};
-ghost use Rattle.cyr_top.specs.JobOf.{job_of, Asks, IsBuiltJob};
+ghost use Rattle.cyr_top.specs.JobOf.{job_of, Asks, CanDo, IsBuiltJob};
 ghost use Rattle.cyr_top.specs.declared.jobs.Job.TheVariants.{Dbtool};
 ghost use Rattle.cyr_top.specs.Opened.{EachOpens, StartsAt, KeepsPrefix, IsNotMade};
-ghost use Rattle.cyr_top.specs.Runs.{Runs, LeavesThen};
-ghost use Rattle.cyr_top.specs.StatedResult.{Shown, TellsFirst, IsUnopened, IsCutOff, ChangesNothing, IsBuilt, IsLeft, KeepsMap, ChangesMap, transactions_of, map_left};
-ghost use Rattle.db_core.specs.declared.fault.OpenFault.{OpenFault};
+ghost use Rattle.cyr_top.specs.Runs.{Runs};
+ghost use Rattle.cyr_top.specs.StatedResult.{StatedResult, IsCutOff, IsNoChange, IsBuilt, map_left};
 ghost use Rattle.db_tool.specs.Acting.{IsFault};
 ghost use Rattle.flat_db.specs.Opening.{flat_opens};
 ghost use Rattle.rand_core.specs.Stream.{next_u32};
 
 use crate::actions::make_and_do;
 use crate::{Job, WordFault, job};
-use base_core::{Host, Note, Outcome};
+use base_core::{Action, Host, Note, Outcome};
 use rand_core::Rng;
 use std::alloc::Global;
 
-// Does a job that words stand for.
-fn do_job<H: Host, R: Rng>(alloc: Global, job: &Job, host: &mut H, rng: &mut R) -> Note
+// Whether a job makes an absent file, and its action.
+fn parts_of(job: &Job) -> (bool, &Action)
     requires { IsBuiltJob job.now }
-    ensures runs { (make : Bool) (file : List ℕ) (action : Act) → job.now ≡ Dbtool make file Flat action → Runs make action (H.streams host.old) (H.streams host.new) (H.state host.old) (H.state host.new) result }
-    ensures built { IsBuilt result }
-    ensures no_usage { result ≡ Note.Usage → ⊥ }
-    ensures rose { IsFault result → Rose (H.state host.old).faults (H.state host.new).faults }
-    ensures stood { (IsFault result → ⊥) → (H.state host.new).faults ≡ (H.state host.old).faults }
-    ensures warned { (H.streams host.new).warned ≡ (H.streams host.old).warned }
-    ensures drawn { (R.stream rng.new ≡ R.stream rng.old) ⊎ (R.stream rng.new ≡ (next_u32 (R.stream rng.old)).1) }
-    ensures rest { H.host_rest host.old host.new }
+    ensures parts { (make : Bool) (file : List ℕ) (action : Act) → job.now ≡ Dbtool make file Flat action → (result.0 ≡ make) × (result.1.now ≡ action) }
+    ensures can { CanDo result.1.now }
 {
     let Job::Dbtool { make, action, .. } = job;
-    make_and_do(alloc, *make, action, host, rng)
+    (*make, action)
 }
 
 // Does what the words ask for.
@@ -53,7 +46,10 @@ fn perform<H: Host, R: Rng>(alloc: Global, words: &[String], host: &mut H, rng: 
     ensures rest { H.host_rest host.old host.new }
 {
     match job(alloc, words) {
-        Ok(job) => do_job(alloc, &job, host, rng),
+        Ok(job) => {
+            let (make, action) = parts_of(&job);
+            make_and_do(alloc, make, action, host, rng)
+        }
         Err(WordFault::Usage) => Note::Usage,
         Err(WordFault::NoMemory) => Note::Memory,
     }
@@ -70,35 +66,16 @@ pub fn run<H: Host, R: Rng>(alloc: Global, words: &[String], host: &mut H, rng: 
     ensures usage { (result.note ≡ Note.Usage) ↔ (job_of (map string_bytes words.now) ≡ None) }
     ensures untouched { result.note ≡ Note.Usage → SameDisk (H.state host.old) (H.state host.new) × ((H.streams host.new).told ≡ (H.streams host.old).told) }
 
-    // Note and output are the stated ones, by what the main file reads, unless the host failed or memory ran out. What is stated is stated once.
-    ensures stated { (make : Bool) (action : Act) → Asks (map string_bytes words.now) make action → (main : Image) → (H.state host.old).reads ≡ Some main
-        → IsCutOff result.note ⊎ ((output : List ℕ) × Shown make action main result.note output × ((H.streams host.new).told ≡ told_with (H.streams host.old).told output)) }
+    // What is owed of an action: the stated note and output, and what is left of the file at each moment and at the end.
+    ensures runs { (make : Bool) (action : Act) → Asks (map string_bytes words.now) make action
+        → Runs make action (H.streams host.old) (H.streams host.new) (H.state host.old) (H.state host.new) result.note }
+
+    // Whatever note and output are stated for the file, the run ends with them, unless the host failed or memory ran out.
     ensures exactly { (make : Bool) (action : Act) → Asks (map string_bytes words.now) make action → (main : Image) → (H.state host.old).reads ≡ Some main
-        → (wanted : Note) (output : List ℕ) → Shown make action main wanted output
+        → (wanted : Note) (output : List ℕ) → StatedResult make action main wanted output
         → IsCutOff result.note ⊎ ((result.note ≡ wanted) × ((H.streams host.new).told ≡ told_with (H.streams host.old).told output)) }
 
-    // However it ends, some first bytes of the stated output were told, and nothing else.
-    ensures told { (make : Bool) (action : Act) → Asks (map string_bytes words.now) make action → (main : Image) → (H.state host.old).reads ≡ Some main
-        → (wanted : Note) (output : List ℕ) → Shown make action main wanted output → TellsFirst (H.streams host.old).told (H.streams host.new).told output }
-
-    // After `Done` a crash leaves nothing but a file of the map that the action leaves.
-    ensures done { (make : Bool) (action : Act) → Asks (map string_bytes words.now) make action → result.note ≡ Note.Done → (c : Image) → (H.state host.new).leaves c → IsLeft make action (H.state host.old) c }
-
-    // Any other note that is no device fault leaves the file's map as it was, at every moment. A file that is not opened stays as it was.
-    ensures unchanged { (make : Bool) (action : Act) → Asks (map string_bytes words.now) make action → ChangesNothing result.note
-        → LeavesThen (H.state host.old) (H.state host.new) (λ c. (H.state host.old).leaves c ⊎ KeepsMap make (H.state host.old).reads c) }
-    ensures unopened { (make : Bool) (action : Act) → Asks (map string_bytes words.now) make action → (main : Image) → (H.state host.old).reads ≡ Some main
-        → (fault : OpenFault) → IsUnopened make main fault → LeavesThen (H.state host.old) (H.state host.new) (H.state host.old).leaves }
-
-    // An action without a transaction changes nothing of a file that is there.
-    ensures kept { (make : Bool) (action : Act) → Asks (map string_bytes words.now) make action → transactions_of action ≡ [] → (bytes : List ℕ) → (H.state host.old).reads ≡ Some (Some bytes)
-        → LeavesThen (H.state host.old) (H.state host.new) (H.state host.old).leaves }
-
-    // Wherever the run stops, the file is one that could be left before, or opens to the map from which the action starts or to that after it.
-    ensures any_moment { (make : Bool) (action : Act) → Asks (map string_bytes words.now) make action
-        → LeavesThen (H.state host.old) (H.state host.new) (λ c. (H.state host.old).leaves c ⊎ (KeepsMap make (H.state host.old).reads c ⊎ ChangesMap make action (H.state host.old).reads c)) }
-
-    // The same in words of maps and transactions: where the run starts from one map, each image that is left opens to the map after
+    // In words of maps and transactions: where the run starts from one map, each image that is left opens to the map after
     // a prefix of the action's transactions that holds every acknowledged one, or is the absent file that is to be made, before a
     // byte was told. At the end it opens to the map after all of them where the note is `Done`, and else to the map at the start.
     ensures crash { (make : Bool) (action : Act) → Asks (map string_bytes words.now) make action → (m : Map) → StartsAt make (H.state host.old) m
@@ -106,7 +83,7 @@ pub fn run<H: Host, R: Rng>(alloc: Global, words: &[String], host: &mut H, rng: 
     ensures committed { (make : Bool) (action : Act) → Asks (map string_bytes words.now) make action → (m : Map) → StartsAt make (H.state host.old) m
         → result.note ≡ Note.Done → EachOpens (H.state host.new) (map_left m action) }
     ensures uncommitted { (make : Bool) (action : Act) → Asks (map string_bytes words.now) make action → (m : Map) → StartsAt make (H.state host.old) m
-        → ChangesNothing result.note → (c : Image) → (H.state host.new).leaves c → flat_opens c m ⊎ ((make ≡ true) × (c ≡ None) × (result.note ≡ Note.Memory)) }
+        → IsNoChange result.note → (c : Image) → (H.state host.new).leaves c → flat_opens c m ⊎ ((make ≡ true) × (c ≡ None) × (result.note ≡ Note.Memory)) }
 
     // There is no other note than those of the actions that are built, and no other device than the host.
     ensures built { IsBuilt result.note }

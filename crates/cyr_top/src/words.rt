@@ -122,11 +122,15 @@ pub fn job(alloc: Global, words: &[String]) -> Result<Job, WordFault>
     ensures built { IfOk result IsBuiltJob }
     ensures usage { (result ≡ Err Usage) ↔ (job_of (map string_bytes words.now) ≡ None) }
 {
+    let [tool, words @ ..] = words else {
+        return Err(WordFault::Usage);
+    };
+    if tool.as_str() != "cyr_dbtool" {
+        return Err(WordFault::Usage);
+    }
     match words {
-        [tool, _, ..] if tool.as_str() != "cyr_dbtool" => Err(WordFault::Usage),
-        [_, flag, words @ ..] if flag.as_str() == "-n" => dbtool(alloc, true, words),
-        [_, words @ ..] => dbtool(alloc, false, words),
-        [] => Err(WordFault::Usage),
+        [flag, operands @ ..] if flag.as_str() == "-n" => dbtool(alloc, true, operands),
+        _ => dbtool(alloc, false, words),
     }
 }
 

@@ -2,13 +2,15 @@
 //! the words, the real devices and the process.
 #![tactic(auto)]
 
-ghost use Rattle.std.specs.Prelude.{◌≡◌, Bool, [], Some, None, IfOk, map, string_bytes};
+ghost use Rattle.std.specs.Prelude.{◌≡◌, ◌⊎◌, ℕ, Bool, List, [], Some, None, IfOk, map, string_bytes};
 ghost use Rattle.std.specs.Process.{exit_status};
 ghost use Rattle.base_core.specs.CrashImages.{Image};
 ghost use Rattle.base_core.specs.declared.action.Action.{Action};
-ghost use Rattle.base_core.specs.declared.status.TheConstants.{STATUS_DONE, STATUS_USAGE};
+ghost use Rattle.base_core.specs.declared.note.Note.{Note};
+ghost use Rattle.base_core.specs.Notes.{status_of};
+ghost use Rattle.base_core.specs.declared.status.TheConstants.{STATUS_DEVICE_FAULT, STATUS_DONE, STATUS_NO_MEMORY, STATUS_USAGE};
 ghost use Rattle.cyr_top.specs.JobOf.{job_of, Asks, main_path};
-ghost use Rattle.cyr_top.specs.StatedResult.{IsLeft};
+ghost use Rattle.cyr_top.specs.StatedResult.{StatedResult, IsLeft};
 ghost use Rattle.cyr_top.specs.declared.jobs.Job.{Job};
 
 use base_core::{Host, NoMemory, STATUS_NO_MEMORY, Text};
@@ -69,6 +71,9 @@ fn nanoseconds(clock: &impl Clock) -> u64 {
 // Runs, and ends with the run's status.
 fn ended<H: Host, R: Rng>(alloc: Global, words: &[String], host: &mut H, rng: &mut R) -> ExitCode
     ensures usage { job_of (map string_bytes words.now) ≡ None → exit_status result ≡ STATUS_USAGE }
+    ensures stated { (make : Bool) (action : Action) → Asks (map string_bytes words.now) make action → (main : Image) → (H.state host.old).reads ≡ Some main
+        → (wanted : Note) (output : List ℕ) → StatedResult make action main wanted output
+        → (exit_status result ≡ status_of wanted) ⊎ ((exit_status result ≡ STATUS_DEVICE_FAULT) ⊎ (exit_status result ≡ STATUS_NO_MEMORY)) }
     ensures done { exit_status result ≡ STATUS_DONE → (make : Bool) (action : Action) → Asks (map string_bytes words.now) make action → (c : Image) → (H.state host.new).leaves c → IsLeft make action (H.state host.old) c }
     ensures rest { H.host_rest host.old host.new }
 {

@@ -10,7 +10,7 @@ use Rattle.db_tool.specs.Acting.{ToldSome}
 use Rattle.db_tool.specs.Printing.{Prints, TellsOnly}
 
 -- what is told in two parts
-told_none : (o : Option (List ℕ)) → o ≡ told_with o []
+pub told_none : (o : Option (List ℕ)) → o ≡ told_with o []
 told_none None = refl
 told_none (Some l) = ap Some (sym (append-nil l))
 

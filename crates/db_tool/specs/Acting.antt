@@ -12,7 +12,7 @@ use Rattle.base_core.specs.declared.note.Note.TheVariants.{Done, Answer, BadLine
 use Rattle.base_core.specs.declared.note.LimitName.TheVariants.{Key, Value, File}
 use Rattle.base_core.specs.declared.note.Device.TheVariants.{Host}
 use Rattle.db_core.specs.Sessions.{DbKind, DbState}
-use Rattle.db_core.specs.WholeTransactions.{map_after, run_refusal}
+use Rattle.db_core.specs.WholeTransactions.{map_after, run_after, run_refusal}
 use Rattle.db_tool.specs.Printing.{TellsOnly}
 use Rattle.db_core.specs.declared.change.Change.{Change}
 use Rattle.db_core.specs.declared.change.Change.TheVariants.{Put, Del}
@@ -27,17 +27,17 @@ CanAct (Set key value) = Unit {0}
 CanAct (Delete key) = Unit {0}
 CanAct action = ⊥
 
--- those that change a map
-abbrev pub IsChange : Action → Type 0
-IsChange (Set key value) = Unit {0}
-IsChange (Delete key) = Unit {0}
-IsChange action = ⊥
-
 -- the changes of the one transaction that an action makes, with the random word that it draws
 abbrev pub changes_by : ℕ → Action → List Change
 changes_by word (Set key value) = Put word key value ∷ []
 changes_by word (Delete key) = Del key ∷ []
 changes_by word action = []
+
+-- the session after the transaction of an action that makes one
+abbrev pub session_after : DbKind → DbState → ℕ → Action → DbState
+session_after kind s word (Set key value) = run_after kind s (Put word key value ∷ [])
+session_after kind s word (Delete key) = run_after kind s (Del key ∷ [])
+session_after kind s word action = s
 
 -- a value is printed with a line feed behind it
 abbrev pub value_line : Option (List ℕ) → List ℕ
@@ -134,10 +134,10 @@ pub record Looks (wanted : Note) (output : List ℕ) (old new : HostState) (d e 
 
 -- An action was done over an open database, in which no transaction stood, or was refused.
 pub record Acts (kind : DbKind) (word : ℕ) (action : Action) (s t : DbState) (old new : HostState) (d e : DiskState) (note : Note) : Type 0 where
-  -- at its end all of the output was told, and the map is the one after its transaction
+  -- at its end all of the output was told, and the session is the one after its transaction
   pub ended : IsEnd note → (owed_by kind s word action ≡ None) × (note ≡ note_by action s.seen)
   pub printed : IsEnd note → new.told ≡ told_with old.told (told_by action s.seen)
-  pub made : IsEnd note → (t.committed ≡ map_after s.seen (changes_by word action)) × (t.is_broken ≡ false) × (t.in_transaction ≡ false)
+  pub made : IsEnd note → t ≡ session_after kind s word action
   -- in place of it comes the note that is owed; then nothing was told and the session is as before, unless the host failed
   pub refused : (IsEnd note → ⊥) → MayRefuse (owed_by kind s word action) note
   pub same : (IsEnd note → ⊥) → (IsFault note → ⊥) → t ≡ s
@@ -147,7 +147,7 @@ pub record Acts (kind : DbKind) (word : ℕ) (action : Action) (s t : DbState) (
   pub mark : d.mark ≤ e.mark
   pub each : LeavesOnly d e (λ c n. (d.mark ≤ n) × (n ≤ e.mark) × (kind.opens c s.committed ⊎ kind.opens c (map_after s.seen (changes_by word action))))
   pub kept : (IsEnd note → ⊥) → (IsFault note → ⊥) → LeavesOnly d e (λ c n. kind.opens c s.committed)
-  -- an action without a change tells, and does nothing else to the host
-  pub tells : changes_by word action ≡ [] → TellsOnly d e
+  -- an action without a change tells, and does nothing else to the host or to the session
+  pub tells : changes_by word action ≡ [] → TellsOnly d e × (t ≡ s)
   pub rose : IsFault note → Rose d.faults e.faults
   pub stood : (IsFault note → ⊥) → e.faults ≡ d.faults

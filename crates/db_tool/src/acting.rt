@@ -1,15 +1,17 @@
 // What the actions of `cyr_dbtool` do with an open database.
-ghost use Rattle.std.specs.Prelude.{◌≡◌, ◌⊎◌, ◌∷◌, ◌++◌, [], false, None, Some, IfOk, OnOk, is_some, if◌then◌else◌};
+ghost use Rattle.std.specs.Prelude.{◌≡◌, ◌⊎◌, ◌∷◌, ℕ, ◌++◌, [], false, None, Some, IfOk, OnOk, is_some, if◌then◌else◌};
 ghost use Rattle.std.specs.Option.{option_map};
 ghost use Rattle.base_core.specs.Causes.{HasCause, Rose};
 ghost use Rattle.base_core.specs.HostCalls.{told_with};
 ghost use Rattle.base_core.specs.Notes.{status_of};
 ghost use Rattle.base_core.specs.OrderedMap.{IsOrderedMap, value_at, with_prefix};
+ghost use Rattle.base_core.specs.declared.action.Action.TheVariants.{Set, Delete};
 ghost use Rattle.base_core.specs.declared.note.Note.{Note};
 ghost use Rattle.db_core.specs.Answers.{OnDisk};
+ghost use Rattle.db_core.specs.declared.change.Change.TheVariants.{Put};
 ghost use Rattle.db_core.specs.WholeTransactions.{map_after, run_after, run_refusal};
 ghost use Rattle.rand_core.specs.Stream.{next_u32};
-ghost use Rattle.db_tool.specs.Acting.{Acts, CanAct, IsChange, changes_by, value_line, pair_text, shown, lacks_key, draws_word, change_note, IsEnd, IsFault, MayRefuse, ToldSome, Looks};
+ghost use Rattle.db_tool.specs.Acting.{Acts, CanAct, value_line, pair_text, shown, lacks_key, draws_word, change_note, IsEnd, IsFault, MayRefuse, ToldSome, Looks};
 ghost use Rattle.db_tool.specs.Printing.{Prints, TellsOnly};
 
 use crate::output::{flush, print};
@@ -18,7 +20,8 @@ use db_core::{Change, Db, DbFault, run_changes};
 use rand_core::Rng;
 use std::alloc::Global;
 
-const HOST_FAULT: Note = Note::DeviceFault {
+/// The note of a run in which a call of the host failed.
+pub const HOST_FAULT: Note = Note::DeviceFault {
     device: Device::Host,
 };
 
@@ -50,7 +53,7 @@ fn has_no_key(action: &Action) -> bool
 }
 
 // Prints a part of a line, and the byte that ends it.
-fn print_part<H: Host>(output: &mut Piece, host: &mut H, part: &[u8], end: u8) -> Result<(), Failed>
+fn print_part<H: Host>(host: &mut H, part: &[u8], end: u8, output: &mut Piece) -> Result<(), Failed>
     ensures prints { Prints (H.streams host.old) (H.streams host.new) (H.state host.old) (H.state host.new) output.old output.new (part.now ++ end ∷ []) result }
     ensures rest { H.host_rest host.old host.new }
 {
@@ -61,7 +64,7 @@ fn print_part<H: Host>(output: &mut Piece, host: &mut H, part: &[u8], end: u8) -
 }
 
 // Prints a value and a line feed, in full before it ends.
-fn print_line<H: Host>(output: &mut Piece, host: &mut H, value: &[u8]) -> Result<(), Failed>
+fn print_line<H: Host>(host: &mut H, value: &[u8], output: &mut Piece) -> Result<(), Failed>
     requires { output.old ≡ [] }
     ensures told { ToldSome (H.streams host.old) (H.streams host.new) (value_line (Some value.now)) }
     ensures whole { OnOk result ((H.streams host.new).told ≡ told_with (H.streams host.old).told (value_line (Some value.now))) }
@@ -69,7 +72,7 @@ fn print_line<H: Host>(output: &mut Piece, host: &mut H, value: &[u8]) -> Result
     ensures cause { HasCause (H.state host.old).faults (H.state host.new).faults result }
     ensures rest { H.host_rest host.old host.new }
 {
-    if let Err(fault) = print_part(output, host, value, b'\n') {
+    if let Err(fault) = print_part(host, value, b'\n', output) {
         return Err(fault);
     }
     flush(host, output)
@@ -87,7 +90,7 @@ fn get<H: Host, B: Db<H>>(alloc: Global, key: &[u8], db: &B, host: &mut H) -> No
     let Ok(mut output) = Piece::new(alloc) else {
         return Note::Memory;
     };
-    match print_line(&mut output, host, value) {
+    match print_line(host, value, &mut output) {
         Ok(()) => Note::Done,
         Err(_) => HOST_FAULT,
     }
@@ -95,26 +98,26 @@ fn get<H: Host, B: Db<H>>(alloc: Global, key: &[u8], db: &B, host: &mut H) -> No
 
 // Prints a pair: its key, TAB, its value and a line feed.
 fn print_pair<H: Host>(
-    output: &mut Piece,
     host: &mut H,
     key: &[u8],
     value: &[u8],
+    output: &mut Piece,
 ) -> Result<(), Failed>
     ensures prints { Prints (H.streams host.old) (H.streams host.new) (H.state host.old) (H.state host.new) output.old output.new (pair_text (key.now, value.now)) result }
     ensures rest { H.host_rest host.old host.new }
 {
-    if let Err(fault) = print_part(output, host, key, b'\t') {
+    if let Err(fault) = print_part(host, key, b'\t', output) {
         return Err(fault);
     }
-    print_part(output, host, value, b'\n')
+    print_part(host, value, b'\n', output)
 }
 
 // Prints the pairs whose key has the prefix.
 fn print_pairs<H: Host, B: Db<H>>(
-    output: &mut Piece,
     prefix: &[u8],
     db: &B,
     host: &mut H,
+    output: &mut Piece,
 ) -> Result<(), Failed>
     requires sound { (B.state db.now).is_broken ≡ false }
     requires ordered { IsOrderedMap (B.state db.now).seen }
@@ -129,7 +132,7 @@ fn print_pairs<H: Host, B: Db<H>>(
         if !pair.key.starts_with(prefix) {
             break;
         }
-        if let Err(fault) = print_pair(output, host, pair.key, pair.value) {
+        if let Err(fault) = print_pair(host, pair.key, pair.value, output) {
             return Err(fault);
         }
         next = db.after(pair.key);
@@ -139,10 +142,10 @@ fn print_pairs<H: Host, B: Db<H>>(
 
 // The same, in full before it ends.
 fn print_map<H: Host, B: Db<H>>(
-    output: &mut Piece,
     prefix: &[u8],
     db: &B,
     host: &mut H,
+    output: &mut Piece,
 ) -> Result<(), Failed>
     requires empty { output.old ≡ [] }
     requires sound { (B.state db.now).is_broken ≡ false }
@@ -153,7 +156,7 @@ fn print_map<H: Host, B: Db<H>>(
     ensures cause { HasCause (H.state host.old).faults (H.state host.new).faults result }
     ensures rest { H.host_rest host.old host.new }
 {
-    if let Err(fault) = print_pairs(output, prefix, db, host) {
+    if let Err(fault) = print_pairs(prefix, db, host, output) {
         return Err(fault);
     }
     flush(host, output)
@@ -169,7 +172,7 @@ fn show<H: Host, B: Db<H>>(alloc: Global, prefix: &[u8], db: &B, host: &mut H) -
     let Ok(mut output) = Piece::new(alloc) else {
         return Note::Memory;
     };
-    match print_map(&mut output, prefix, db, host) {
+    match print_map(prefix, db, host, &mut output) {
         Ok(()) => Note::Done,
         Err(_) => HOST_FAULT,
     }
@@ -197,45 +200,54 @@ fn change<H: Host, B: Db<H>>(db: &mut B, host: &mut H, change: Change) -> Note
     }
 }
 
-// The change of an action that makes one.
-fn change_of(alloc: Global, word: u32, action: &Action) -> Result<Change, NoMemory>
-    requires { IsChange action.now }
-    ensures { IfOk result (λ change. changes_by word action.now ≡ change ∷ []) }
+// The change that puts a pair. It takes a copy of key and value.
+fn put_of(alloc: Global, word: u32, key: &Bytes, value: &Bytes) -> Result<Change, NoMemory>
+    ensures { IfOk result (λ change. change ≡ Put word key.now value.now) }
 {
-    match action {
-        Action::Set { key, value } => Ok(Change::Put {
-            word,
-            key: Bytes::of(alloc, key.as_slice())?,
-            value: Bytes::of(alloc, value.as_slice())?,
-        }),
-        Action::Delete { key } => Ok(Change::Del {
-            key: Bytes::of(alloc, key.as_slice())?,
-        }),
-        _ => unreachable!(),
-    }
+    Ok(Change::Put {
+        word,
+        key: Bytes::of(alloc, key.as_slice())?,
+        value: Bytes::of(alloc, value.as_slice())?,
+    })
 }
 
-// Does an action that changes the map.
-fn alter<H: Host, B: Db<H>>(
+// Puts a pair.
+fn set<H: Host, B: Db<H>>(
     alloc: Global,
     word: u32,
-    action: &Action,
+    key: &Bytes,
+    value: &Bytes,
     db: &mut B,
     host: &mut H,
 ) -> Note
-    requires can { IsChange action.now }
-    requires key { lacks_key action.now ≡ false }
+    requires key { lacks_key (Set key.now value.now) ≡ false }
     requires sound { (B.state db.old).is_broken ≡ false }
     requires closed { (B.state db.old).in_transaction ≡ false }
     requires tied { B.tie db.old host.old }
-    ensures acts { Acts B.kind word action.now (B.state db.old) (B.state db.new) (H.streams host.old) (H.streams host.new) (H.state host.old) (H.state host.new) result }
+    ensures acts { Acts B.kind word (Set key.now value.now) (B.state db.old) (B.state db.new) (H.streams host.old) (H.streams host.new) (H.state host.old) (H.state host.new) result }
     ensures tied { B.tie db.new host.new }
     ensures rest { H.host_rest host.old host.new }
 {
-    let Ok(made) = change_of(alloc, word, action) else {
-        return Note::Memory;
-    };
-    change(db, host, made)
+    match put_of(alloc, word, key, value) {
+        Ok(put) => change(db, host, put),
+        Err(_) => Note::Memory,
+    }
+}
+
+// Takes a key out.
+fn delete<H: Host, B: Db<H>>(alloc: Global, key: &Bytes, db: &mut B, host: &mut H) -> Note
+    requires key { lacks_key (Delete key.now) ≡ false }
+    requires sound { (B.state db.old).is_broken ≡ false }
+    requires closed { (B.state db.old).in_transaction ≡ false }
+    requires tied { B.tie db.old host.old }
+    ensures acts { (word : ℕ) → Acts B.kind word (Delete key.now) (B.state db.old) (B.state db.new) (H.streams host.old) (H.streams host.new) (H.state host.old) (H.state host.new) result }
+    ensures tied { B.tie db.new host.new }
+    ensures rest { H.host_rest host.old host.new }
+{
+    match Bytes::of(alloc, key.as_slice()) {
+        Ok(key) => change(db, host, Change::Del { key }),
+        Err(_) => Note::Memory,
+    }
 }
 
 // Does an action whose key, if it has one, is not empty.
@@ -260,15 +272,16 @@ fn perform<H: Host, B: Db<H>, R: Rng>(
     match action {
         Action::Show { prefix } => show(alloc, prefix.as_slice(), db, host),
         Action::Get { key } => get(alloc, key.as_slice(), db, host),
-        Action::Set { .. } => alter(alloc, rng.next_u32(), action, db, host),
-        Action::Delete { .. } => alter(alloc, 0, action, db, host),
+        Action::Set { key, value } => set(alloc, rng.next_u32(), key, value, db, host),
+        Action::Delete { key } => delete(alloc, key, db, host),
         _ => unreachable!(),
     }
 }
 
 /// Does an action with an open database, and prints what it prints in full before it ends.
 ///
-/// An empty key is refused as line 1. A pair that is put takes one random word; nothing else draws one.
+/// An empty key is refused as line 1. A pair that is to be put takes one random word, also where it is then refused;
+/// nothing else draws one.
 pub fn act<H: Host, B: Db<H>, R: Rng>(
     alloc: Global,
     action: &Action,

@@ -4,4 +4,4 @@
 mod acting;
 mod output;
 
-pub use acting::act;
+pub use acting::{HOST_FAULT, act};

@@ -136,7 +136,7 @@ fn long_line(alloc: Global, count: usize) -> Result<Vec<u8>, Fail> {
     Ok(line)
 }
 
-// An output of 80,003 bytes takes two tells. Where the second fails, some first bytes were told, and not all.
+// An output of 80,003 bytes takes two tells, the first of 65,536 bytes.
 #[test]
 fn second_tell_fails(rt: HostRuntime) -> Result<(), Fail> {
     let alloc = rt.alloc();
@@ -145,7 +145,7 @@ fn second_tell_fails(rt: HostRuntime) -> Result<(), Fail> {
     let mut host = host_of(alloc, Some(line.as_slice()), &[], &[2])?;
     assert_eq!(rt; status_of(alloc, &words, &mut host), 74);
     assert_eq!(rt; host.warned(), FAULT.as_bytes());
-    assert!(rt; !host.told().is_empty() && host.told().len() < line.len());
+    assert_eq!(rt; host.told().len(), 65_536);
     assert!(rt; line.starts_with(host.told()));
     assert_eq!(rt; host.disk().main(), Some(line.as_slice()));
 

@@ -1,6 +1,6 @@
 use Rattle.std.proofs.Common.{false, sym, subst}
 use Rattle.flat_db.specs.Sessions.{FlatSession, flat_kind, flat_state}
-use Rattle.db_tool.specs.Acting.{Acts}
+use Rattle.db_tool.specs.Acting.{Acts, CanAct}
 use Rattle.rand_core.specs.Stream.{next_u32}
 use Rattle.cyr_top.specs.Runs.{Runs}
 use Rattle.cyr_top.proofs.RunLemmas.{acts_plainly, acted, not_opened}
@@ -26,4 +26,4 @@ pub returns-in-Err-clause-runs : goal.returns-in-Err-clause-runs
 returns-in-Err-clause-runs g c =
     subst (Runs false c.args.action.now (g.H.Host.streams c.args.host.now) (g.H.Host.streams c.open_db.new.disk) (g.H.Disk.state c.args.host.now) (g.H.Disk.state c.open_db.new.disk)) (sym c.note_of_opening.ensures)
     (not_opened c.args.action.now _ _ _ _ c.in-Err.fault (acts_plainly c.args.action.now c.in-Err.fault c.requires) c.open_db.ensures.disk (g.met.H.Host.disk_keeps _ _ c.open_db.ensures.rest)
-    c.in-Err.ensures.refusal c.in-Err.ensures.cause)
+    c.in-Err.ensures.refusal c.in-Err.ensures.cause (λ is. absurd (subst CanAct is c.requires)))

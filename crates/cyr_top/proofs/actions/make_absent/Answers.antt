@@ -7,7 +7,7 @@ use Rattle.cyr_top.proofs.actions.make_absent.Goals as goal
 pub returns-in-Ok-Some-clause-made : goal.returns-in-Ok-Some-clause-made
 returns-in-Ok-Some-clause-made g c =
     made_before _ _ c.in-Ok-Some.field-0-0
-    (subst (λ (l : Option ℕ). (main : Image) → (g.H.Disk.state c.args.host.now).reads ≡ Some main → IsLength main l) c.in-Ok-Some.field-0-is c.in-Ok-Some.ensures.length) c.length.ensures.main c.length.ensures.call
+    (subst (λ (l : Option ℕ). (main : Image) → (g.H.Disk.state c.args.host.now).reads ≡ Some main → IsLength main l) c.in-Ok-Some.field-0-is c.in-Ok-Some.ensures.length) c.length.ensures.main c.length.ensures.fresh c.length.ensures.call
 
 pub returns-in-Ok-None-clause-made : goal.returns-in-Ok-None-clause-made
 returns-in-Ok-None-clause-made g c =
