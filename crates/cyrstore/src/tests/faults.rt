@@ -6,34 +6,63 @@ use std::test::Fail;
 
 const FAULT: &str = "device fault: host\n";
 
-// An action, how many calls of the disk and how many tells it makes, and how it ends where none fails: the status,
-// what it tells, and the file.
-type Row = (&'static str, u64, u64, u8, &'static [u8], &'static [u8]);
+// An action, how many calls of the disk and how many tells it makes, and how it ends where none fails.
+#[derive(Clone, Copy)]
+struct Row {
+    action: &'static str,
+    calls: u64,
+    tells: u64,
+    status: u8,
+    told: &'static [u8],
+    after: &'static [u8],
+}
+
+fn ended(
+    action: &'static str,
+    calls: u64,
+    tells: u64,
+    status: u8,
+    told: &'static [u8],
+    after: &'static [u8],
+) -> Row {
+    Row {
+        action,
+        calls,
+        tells,
+        status,
+        told,
+        after,
+    }
+}
 
 const FILE: &[u8] = b"a\t1\n";
 
 // An opening tells the length, syncs and reads; a check does not sync. A change starts the new file, writes its one
 // piece, syncs and publishes it.
-const ROWS: [Row; 8] = [
-    ("show", 3, 1, 0, b"a\t1\n", FILE),
-    ("get a", 3, 1, 0, b"1\n", FILE),
-    ("get z", 3, 0, 1, b"", FILE),
-    ("set b 2", 7, 0, 0, b"", b"a\t1\nb\t2\n"),
-    ("delete a", 7, 0, 0, b"", b""),
-    ("delete z", 3, 0, 0, b"", FILE),
-    ("consistent", 2, 1, 0, b"consistent\n", FILE),
-    ("get ", 3, 0, 65, b"", FILE),
-];
+fn rows() -> [Row; 8] {
+    [
+        ended("show", 3, 1, 0, b"a\t1\n", FILE),
+        ended("get a", 3, 1, 0, b"1\n", FILE),
+        ended("get z", 3, 0, 1, b"", FILE),
+        ended("set b 2", 7, 0, 0, b"", b"a\t1\nb\t2\n"),
+        ended("delete a", 7, 0, 0, b"", b""),
+        ended("delete z", 3, 0, 0, b"", FILE),
+        ended("consistent", 2, 1, 0, b"consistent\n", FILE),
+        ended("get ", 3, 0, 65, b"", FILE),
+    ]
+}
 
 // On an absent file with the flag: it is found absent, and the new file is started, synced and published. The empty file
 // is then opened with two calls, and checked with one.
-const MADE: [Row; 5] = [
-    ("show", 6, 0, 0, b"", b""),
-    ("get k", 6, 0, 1, b"", b""),
-    ("set k v", 10, 0, 0, b"", b"k\tv\n"),
-    ("delete k", 6, 0, 0, b"", b""),
-    ("consistent", 5, 1, 0, b"consistent\n", b""),
-];
+fn made_rows() -> [Row; 5] {
+    [
+        ended("show", 6, 0, 0, b"", b""),
+        ended("get k", 6, 0, 1, b"", b""),
+        ended("set k v", 10, 0, 0, b"", b"k\tv\n"),
+        ended("delete k", 6, 0, 0, b"", b""),
+        ended("consistent", 5, 1, 0, b"consistent\n", b""),
+    ]
+}
 
 // The run in which one call or one tell fails: the file is left as it stands then.
 fn assert_fault(
@@ -56,16 +85,19 @@ fn assert_fault(
 
 // How a row ends where nothing fails.
 fn case_of<'a>(make: bool, before: Option<&'a [u8]>, row: &Row) -> Case<'a> {
-    let (action, _, _, status, told, after) = *row;
-    let warned = if status == 65 { "line 1: wrong\n" } else { "" };
+    let warned = if row.status == 65 {
+        "line 1: wrong\n"
+    } else {
+        ""
+    };
     Case {
         make,
-        action,
+        action: row.action,
         before,
-        status,
-        told,
+        status: row.status,
+        told: row.told,
         warned,
-        after: Some(after),
+        after: Some(row.after),
     }
 }
 
@@ -73,11 +105,11 @@ fn case_of<'a>(make: bool, before: Option<&'a [u8]>, row: &Row) -> Case<'a> {
 // the flag there is one call more: the one that finds the file.
 fn assert_row(rt: &impl Abort, alloc: Global, make: bool, row: &Row) -> Result<(), Fail> {
     let case = case_of(make, Some(FILE), row);
-    let calls = row.1.saturating_add(u64::from(make));
+    let calls = row.calls.saturating_add(u64::from(make));
     for call in 1..=calls {
         assert_fault(rt, alloc, &case, &[call], &[], Some(FILE))?;
     }
-    for tell in 1..=row.2 {
+    for tell in 1..=row.tells {
         assert_fault(rt, alloc, &case, &[], &[tell], Some(FILE))?;
     }
     assert_case(
@@ -85,13 +117,13 @@ fn assert_row(rt: &impl Abort, alloc: Global, make: bool, row: &Row) -> Result<(
         alloc,
         &case,
         &[calls.saturating_add(1)],
-        &[row.2.saturating_add(1)],
+        &[row.tells.saturating_add(1)],
     )
 }
 
 #[test]
 fn each_failing_call_answers_host(rt: HostRuntime) -> Result<(), Fail> {
-    for row in &ROWS {
+    for row in &rows() {
         assert_row(&rt, rt.alloc(), false, row)?;
         assert_row(&rt, rt.alloc(), true, row)?;
     }
@@ -103,25 +135,25 @@ const MAKING: u64 = 4;
 
 fn assert_made(rt: &impl Abort, alloc: Global, row: &Row) -> Result<(), Fail> {
     let case = case_of(true, None, row);
-    for call in 1..=row.1 {
+    for call in 1..=row.calls {
         let left: Option<&[u8]> = if call <= MAKING { None } else { Some(b"") };
         assert_fault(rt, alloc, &case, &[call], &[], left)?;
     }
-    for tell in 1..=row.2 {
+    for tell in 1..=row.tells {
         assert_fault(rt, alloc, &case, &[], &[tell], Some(b""))?;
     }
     assert_case(
         rt,
         alloc,
         &case,
-        &[row.1.saturating_add(1)],
-        &[row.2.saturating_add(1)],
+        &[row.calls.saturating_add(1)],
+        &[row.tells.saturating_add(1)],
     )
 }
 
 #[test]
 fn each_failing_call_of_making_answers_host(rt: HostRuntime) -> Result<(), Fail> {
-    for row in &MADE {
+    for row in &made_rows() {
         assert_made(&rt, rt.alloc(), row)?;
     }
     Ok(())
