@@ -33,6 +33,15 @@ fn unescaped(second: u8) -> Option<u8>
     }
 }
 
+// How many bytes stand for this one. Without a branch, so that the compiler can look at several bytes at once.
+#[tactic(auto, unfolding(crate::specs::Escapes::escaped_byte))]
+fn spelled_size(byte: u8) -> usize
+    ensures size { result ≡ length (escaped_byte byte) }
+    ensures bound { result ≤ 2 }
+{
+    1 + usize::from((byte == 0) | (byte == 9) | (byte == 10) | (byte == 13) | (byte == ESCAPE))
+}
+
 /// How many bytes the field of these bytes has, at most two for each.
 #[tactic(auto, unfolding(crate::specs::Escapes::escaped), using(crate::proofs::EscapeLemmas::escaped_bound))]
 pub fn escaped_size(bytes: &[u8]) -> usize
@@ -41,7 +50,7 @@ pub fn escaped_size(bytes: &[u8]) -> usize
 {
     let mut size = 0;
     for byte in bytes {
-        size += if escape_of(*byte).is_some() { 2 } else { 1 };
+        size += spelled_size(*byte);
     }
     size
 }
