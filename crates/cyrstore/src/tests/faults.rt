@@ -6,18 +6,19 @@ use std::test::Fail;
 
 const FAULT: &str = "device fault: host\n";
 
-// An action, how many calls of the disk and how many tells it makes, and how it ends where none fails.
+const FILE: &[u8] = b"a\t1\n";
+
+// How many calls of the disk and how many tells a run makes, and how it ends where none fails.
 #[derive(Clone, Copy)]
 struct Row {
-    action: &'static str,
     calls: u64,
     tells: u64,
-    status: u8,
-    told: &'static [u8],
-    after: &'static [u8],
+    case: Case<'static>,
 }
 
-fn ended(
+// The row of a run over this file, with the flag where it is absent.
+fn row_of(
+    before: Option<&'static [u8]>,
     action: &'static str,
     calls: u64,
     tells: u64,
@@ -25,30 +26,30 @@ fn ended(
     told: &'static [u8],
     after: &'static [u8],
 ) -> Row {
-    Row {
+    let case = Case {
+        make: before.is_none(),
         action,
-        calls,
-        tells,
+        before,
         status,
         told,
-        after,
-    }
+        warned: if status == 65 { "line 1: wrong\n" } else { "" },
+        after: Some(after),
+    };
+    Row { calls, tells, case }
 }
-
-const FILE: &[u8] = b"a\t1\n";
 
 // An opening tells the length, syncs and reads; a check does not sync. A change starts the new file, writes its one
 // piece, syncs and publishes it.
 fn rows() -> [Row; 8] {
     [
-        ended("show", 3, 1, 0, b"a\t1\n", FILE),
-        ended("get a", 3, 1, 0, b"1\n", FILE),
-        ended("get z", 3, 0, 1, b"", FILE),
-        ended("set b 2", 7, 0, 0, b"", b"a\t1\nb\t2\n"),
-        ended("delete a", 7, 0, 0, b"", b""),
-        ended("delete z", 3, 0, 0, b"", FILE),
-        ended("consistent", 2, 1, 0, b"consistent\n", FILE),
-        ended("get ", 3, 0, 65, b"", FILE),
+        row_of(Some(FILE), "show", 3, 1, 0, b"a\t1\n", FILE),
+        row_of(Some(FILE), "get a", 3, 1, 0, b"1\n", FILE),
+        row_of(Some(FILE), "get z", 3, 0, 1, b"", FILE),
+        row_of(Some(FILE), "set b 2", 7, 0, 0, b"", b"a\t1\nb\t2\n"),
+        row_of(Some(FILE), "delete a", 7, 0, 0, b"", b""),
+        row_of(Some(FILE), "delete z", 3, 0, 0, b"", FILE),
+        row_of(Some(FILE), "consistent", 2, 1, 0, b"consistent\n", FILE),
+        row_of(Some(FILE), "get ", 3, 0, 65, b"", FILE),
     ]
 }
 
@@ -56,11 +57,11 @@ fn rows() -> [Row; 8] {
 // is then opened with two calls, and checked with one.
 fn made_rows() -> [Row; 5] {
     [
-        ended("show", 6, 0, 0, b"", b""),
-        ended("get k", 6, 0, 1, b"", b""),
-        ended("set k v", 10, 0, 0, b"", b"k\tv\n"),
-        ended("delete k", 6, 0, 0, b"", b""),
-        ended("consistent", 5, 1, 0, b"consistent\n", b""),
+        row_of(None, "show", 6, 0, 0, b"", b""),
+        row_of(None, "get k", 6, 0, 1, b"", b""),
+        row_of(None, "set k v", 10, 0, 0, b"", b"k\tv\n"),
+        row_of(None, "delete k", 6, 0, 0, b"", b""),
+        row_of(None, "consistent", 5, 1, 0, b"consistent\n", b""),
     ]
 }
 
@@ -83,28 +84,10 @@ fn assert_fault(
     assert_case(rt, alloc, &case, calls, tells)
 }
 
-// How a row ends where nothing fails.
-fn case_of<'a>(make: bool, before: Option<&'a [u8]>, row: &Row) -> Case<'a> {
-    let warned = if row.status == 65 {
-        "line 1: wrong\n"
-    } else {
-        ""
-    };
-    Case {
-        make,
-        action: row.action,
-        before,
-        status: row.status,
-        told: row.told,
-        warned,
-        after: Some(row.after),
-    }
-}
-
 // Over a file that is there, each call that fails leaves it as it was; the call after the last one is never made. With
 // the flag there is one call more: the one that finds the file.
 fn assert_row(rt: &impl Abort, alloc: Global, make: bool, row: &Row) -> Result<(), Fail> {
-    let case = case_of(make, Some(FILE), row);
+    let case = Case { make, ..row.case };
     let calls = row.calls.saturating_add(u64::from(make));
     for call in 1..=calls {
         assert_fault(rt, alloc, &case, &[call], &[], Some(FILE))?;
@@ -134,7 +117,7 @@ fn each_failing_call_answers_host(rt: HostRuntime) -> Result<(), Fail> {
 const MAKING: u64 = 4;
 
 fn assert_made(rt: &impl Abort, alloc: Global, row: &Row) -> Result<(), Fail> {
-    let case = case_of(true, None, row);
+    let case = row.case;
     for call in 1..=row.calls {
         let left: Option<&[u8]> = if call <= MAKING { None } else { Some(b"") };
         assert_fault(rt, alloc, &case, &[call], &[], left)?;
