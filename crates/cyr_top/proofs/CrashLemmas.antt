@@ -1,13 +1,14 @@
 -- What is left of a run, in words of maps and transactions.
 use Rattle.std.proofs.Common.{◌≡◌, ◌⊎◌, inl, inr, ⊎_elim, ℕ, Bool, true, List, None, Some, sym, ◌∙◌, ap, subst, arith}
-use Rattle.base_core.specs.CrashImages.{Image, DiskState, GoesOn, LeavesOnly, IsMoment, SameDisk}
-use Rattle.base_core.specs.HostCalls.{HostState, told_with}
-use Rattle.base_core.specs.OrderedMap.{Map}
-use Rattle.base_core.specs.declared.action.Action.{Action}
-use Rattle.base_core.specs.declared.action.Action.TheVariants.{Show, Get, Set, Delete, Consistent, Repack, Batch, Exercise}
-use Rattle.base_core.specs.declared.note.Note.{Note}
-use Rattle.base_core.specs.declared.note.Note.TheVariants.{Done, Memory}
-use Rattle.base_core.proofs.Moments.{leaves_still}
+use Rattle.base_devices.specs.CrashImages.{Image, DiskState, GoesOn, LeavesOnly, IsMoment}
+use Rattle.base_devices.specs.Frames.{SameDisk}
+use Rattle.base_devices.specs.HostCalls.{HostState, told_with}
+use Rattle.base_bytes.specs.OrderedMap.{Map}
+use Rattle.base_notes.specs.declared.action.Action.{Action}
+use Rattle.base_notes.specs.declared.action.Action.TheVariants.{Show, Get, Set, Delete, Consistent, Repack, Batch, Exercise}
+use Rattle.base_notes.specs.declared.note.Note.{Note}
+use Rattle.base_notes.specs.declared.note.Note.TheVariants.{Done, Memory}
+use Rattle.base_devices.proofs.Moments.{leaves_still}
 use Rattle.db_tool.specs.Acting.{IsFault}
 use Rattle.flat_db.specs.Opening.{flat_opens}
 use Rattle.flat_db.proofs.OpeningLemmas.{some_of}

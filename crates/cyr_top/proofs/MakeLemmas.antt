@@ -1,18 +1,19 @@
 -- An absent main file is made, and then an action runs over it.
 use Rattle.std.proofs.Common.{◌≡◌, ◌⊎◌, inl, inr, ⊎_elim, ℕ, ◌≤◌, true, false, List, [], Option, Some, None, Result, Ok, Err, refl, sym, ◌∙◌, ap, subst, arith}
 use Rattle.std.specs.Prelude.{IsSome, OnOk}
-use Rattle.base_core.specs.Causes.{Rose, HasCause}
-use Rattle.base_core.specs.CrashImages.{Image, DiskState, GoesOn, IsMoment, IsDurable, KeepsMain, StaysAs}
-use Rattle.base_core.specs.DiskCalls.{DiskCall, IsLength}
-use Rattle.base_core.specs.HostCalls.{HostState, told_with}
-use Rattle.base_core.specs.OrderedMap.{Map}
-use Rattle.base_core.specs.Time.{goes_then}
-use Rattle.base_core.specs.declared.action.Action.{Action}
-use Rattle.base_core.specs.declared.action.Action.TheVariants.{Show, Get, Set, Delete, Consistent, Repack, Batch, Exercise}
-use Rattle.base_core.specs.declared.note.Note.{Note}
-use Rattle.base_core.specs.declared.note.Note.TheVariants.{DeviceFault}
-use Rattle.base_core.specs.declared.note.Device.TheVariants.{Host}
-use Rattle.base_core.proofs.Moments.{each_then, where_told, stays_call}
+use Rattle.base_devices.specs.Causes.{Rose, HasCause}
+use Rattle.base_devices.specs.CrashImages.{Image, DiskState, GoesOn, IsMoment, IsDurable}
+use Rattle.base_devices.specs.Frames.{KeepsMain, StaysAs}
+use Rattle.base_devices.specs.DiskCalls.{DiskCall, IsLength}
+use Rattle.base_devices.specs.HostCalls.{HostState, told_with}
+use Rattle.base_bytes.specs.OrderedMap.{Map}
+use Rattle.base_devices.specs.Time.{goes_then}
+use Rattle.base_notes.specs.declared.action.Action.{Action}
+use Rattle.base_notes.specs.declared.action.Action.TheVariants.{Show, Get, Set, Delete, Consistent, Repack, Batch, Exercise}
+use Rattle.base_notes.specs.declared.note.Note.{Note}
+use Rattle.base_notes.specs.declared.note.Note.TheVariants.{DeviceFault}
+use Rattle.base_notes.specs.declared.note.Device.TheVariants.{Host}
+use Rattle.base_devices.proofs.Moments.{each_then, where_told, stays_call}
 use Rattle.db_core.specs.declared.fault.OpenFault.{OpenFault}
 use Rattle.db_core.specs.declared.fault.OpenFault.TheVariants.{Absent as NoFile, TooBig, NoMemory as NoRoom, DiskFault as NoDisk, Damaged as Flawed}
 use Rattle.flat_db.specs.Opening.{flat_opens}

@@ -2,18 +2,18 @@
 use Rattle.std.proofs.Common.{◌≡◌, ◌⊎◌, inl, inr, ⊎_elim, ℕ, ◌≤◌, false, List, [], Option, Some, None, Err, refl, sym, ◌∙◌, ap, subst, arith}
 use Rattle.std.proofs.lemmas.List.{append-nil}
 use Rattle.std.specs.Prelude.{IsSome, is_some, if◌then◌else◌}
-use Rattle.base_core.specs.Causes.{Rose}
-use Rattle.base_core.specs.CrashImages.{Image, DiskState, GoesOn, LeavesOnly, LeavesSame, IsMoment}
-use Rattle.base_core.specs.HostCalls.{HostState, told_with}
-use Rattle.base_core.specs.OrderedMap.{Map}
-use Rattle.base_core.specs.Time.{goes_then}
-use Rattle.base_core.specs.declared.action.Action.{Action}
-use Rattle.base_core.specs.declared.action.Action.TheVariants.{Show, Get, Set, Delete, Consistent, Repack, Batch, Exercise}
-use Rattle.base_core.specs.declared.flaw.Damage.{Damage}
-use Rattle.base_core.specs.declared.note.Note.{Note}
-use Rattle.base_core.specs.declared.note.Note.TheVariants.{Done, Answer, Usage, BadLine, Absent, Limit, Exists, DeviceFault, Memory, Damaged}
-use Rattle.base_core.specs.declared.note.Device.TheVariants.{Host, Second, Spool, Input}
-use Rattle.base_core.proofs.Moments.{each_then, where_told}
+use Rattle.base_devices.specs.Causes.{Rose}
+use Rattle.base_devices.specs.CrashImages.{Image, DiskState, GoesOn, LeavesOnly, LeavesSame, IsMoment}
+use Rattle.base_devices.specs.HostCalls.{HostState, told_with}
+use Rattle.base_bytes.specs.OrderedMap.{Map}
+use Rattle.base_devices.specs.Time.{goes_then}
+use Rattle.base_notes.specs.declared.action.Action.{Action}
+use Rattle.base_notes.specs.declared.action.Action.TheVariants.{Show, Get, Set, Delete, Consistent, Repack, Batch, Exercise}
+use Rattle.base_bytes.specs.declared.flaw.Damage.{Damage}
+use Rattle.base_notes.specs.declared.note.Note.{Note}
+use Rattle.base_notes.specs.declared.note.Note.TheVariants.{Done, Answer, Usage, BadLine, Absent, Limit, Exists, DeviceFault, Memory, Damaged}
+use Rattle.base_notes.specs.declared.note.Device.TheVariants.{Host, Second, Spool, Input}
+use Rattle.base_devices.proofs.Moments.{each_then, where_told}
 use Rattle.db_core.specs.Opening.{HasOpenCause}
 use Rattle.db_core.specs.Sessions.{DbState}
 use Rattle.db_core.specs.WholeTransactions.{map_after}

@@ -1,9 +1,9 @@
 -- What a status says of the note.
 use Rattle.std.proofs.Common.{◌≡◌, ◌⊎◌, inl, inr, refl, ap}
-use Rattle.base_core.specs.Notes.{status_of}
-use Rattle.base_core.specs.declared.note.Note.{Note}
-use Rattle.base_core.specs.declared.note.Note.TheVariants.{Done, Answer, Usage, BadLine, Absent, Limit, Exists, DeviceFault, Memory, Damaged}
-use Rattle.base_core.specs.declared.note.Device.TheVariants.{Host}
+use Rattle.base_notes.specs.Notes.{status_of}
+use Rattle.base_notes.specs.declared.note.Note.{Note}
+use Rattle.base_notes.specs.declared.note.Note.TheVariants.{Done, Answer, Usage, BadLine, Absent, Limit, Exists, DeviceFault, Memory, Damaged}
+use Rattle.base_notes.specs.declared.note.Device.TheVariants.{Host}
 use Rattle.db_tool.specs.Acting.{IsFault}
 use Rattle.cyr_top.specs.StatedResult.{IsCutOff}
 

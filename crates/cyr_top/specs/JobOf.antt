@@ -3,9 +3,9 @@ use Rattle.std.specs.Prelude.{◌≡◌, ℕ, ◌&&◌, Bool, true, false, not, 
 use Rattle.std.specs.List.{list_all, starts_with}
 use Rattle.std.specs.Option.{option_map}
 use Rattle.std.specs.Str.{bytes_eq}
-use Rattle.base_core.specs.declared.action.Backend.TheVariants.{Flat}
-use Rattle.base_core.specs.declared.action.Action.{Action}
-use Rattle.base_core.specs.declared.action.Action.TheVariants.{Show, Get, Set, Delete, Consistent}
+use Rattle.base_notes.specs.declared.action.Backend.TheVariants.{Flat}
+use Rattle.base_notes.specs.declared.action.Action.{Action}
+use Rattle.base_notes.specs.declared.action.Action.TheVariants.{Show, Get, Set, Delete, Consistent}
 use Rattle.db_tool.specs.Acting.{CanAct}
 use Rattle.cyr_top.specs.declared.jobs.Job.{Job}
 use Rattle.cyr_top.specs.declared.jobs.Job.TheVariants.{Dbtool}

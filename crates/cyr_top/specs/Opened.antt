@@ -1,9 +1,9 @@
 -- What a crash may leave of a database, in words of maps and transactions.
 use Rattle.std.specs.Prelude.{◌≡◌, ℕ, ◌-◌, ◌≤◌, Bool, true, [], None, length}
-use Rattle.base_core.specs.CrashImages.{Image, DiskState}
-use Rattle.base_core.specs.OrderedMap.{Map}
-use Rattle.base_core.specs.Transactions.{after_first}
-use Rattle.base_core.specs.declared.action.Action.{Action}
+use Rattle.base_devices.specs.CrashImages.{Image, DiskState}
+use Rattle.base_bytes.specs.OrderedMap.{Map}
+use Rattle.base_bytes.specs.Transactions.{after_first}
+use Rattle.base_notes.specs.declared.action.Action.{Action}
 use Rattle.flat_db.specs.Opening.{flat_opens}
 use Rattle.cyr_top.specs.StatedResult.{transactions_of}
 

@@ -1,12 +1,13 @@
 -- How an action runs over a host.
 use Rattle.std.specs.Prelude.{◌≡◌, ◌⊎◌, ℕ, ◌≤◌, Bool, true, List, [], Some, None, Result, OnOk}
-use Rattle.base_core.specs.Causes.{Rose}
-use Rattle.base_core.specs.CrashImages.{Image, DiskState, LeavesOnly, LeavesSame, StaysAs, IsDurable}
-use Rattle.base_core.specs.HostCalls.{HostState, told_with}
-use Rattle.base_core.specs.declared.action.Action.{Action}
-use Rattle.base_core.specs.declared.action.Action.TheVariants.{Consistent}
-use Rattle.base_core.specs.declared.note.Note.{Note}
-use Rattle.base_core.specs.declared.note.Note.TheVariants.{Done, Usage, Memory}
+use Rattle.base_devices.specs.Causes.{Rose}
+use Rattle.base_devices.specs.CrashImages.{Image, DiskState, LeavesOnly, LeavesSame, IsDurable}
+use Rattle.base_devices.specs.Frames.{StaysAs}
+use Rattle.base_devices.specs.HostCalls.{HostState, told_with}
+use Rattle.base_notes.specs.declared.action.Action.{Action}
+use Rattle.base_notes.specs.declared.action.Action.TheVariants.{Consistent}
+use Rattle.base_notes.specs.declared.note.Note.{Note}
+use Rattle.base_notes.specs.declared.note.Note.TheVariants.{Done, Usage, Memory}
 use Rattle.db_core.specs.declared.fault.OpenFault.{OpenFault}
 use Rattle.db_tool.specs.Acting.{IsFault}
 use Rattle.cyr_top.specs.StatedResult.{StatedResult, TellsFirst, IsUnopened, KeepsMap, ChangesMap, IsLeft, transactions_of, IsCutOff, IsNoChange, IsBuilt}

@@ -1,18 +1,18 @@
 -- The stated result of an action: its note, its output and the map that it leaves, by what the main file reads.
 use Rattle.std.specs.Prelude.{◌≡◌, ◌⊎◌, ℕ, Bool, true, nat_lt, List, [], ◌∷◌, ◌++◌, Option, None, Some, is_some, length, codes, decimal, if◌then◌else◌}
-use Rattle.base_core.specs.CrashImages.{Image, DiskState}
-use Rattle.base_core.specs.HostCalls.{told_with}
-use Rattle.base_core.specs.Notes.{flaw_text}
-use Rattle.base_core.specs.OrderedMap.{Map, put, without, value_at}
-use Rattle.base_core.specs.Transactions.{Transaction, Store, Remove, after_transactions}
-use Rattle.base_core.specs.declared.action.Action.{Action}
-use Rattle.base_core.specs.declared.action.Action.TheVariants.{Get, Set, Delete, Consistent}
-use Rattle.base_core.specs.declared.flaw.Damage.{Damage}
-use Rattle.base_core.specs.declared.limits.TheConstants.{KEY_LIMIT, VALUE_LIMIT, FLAT_LIMIT}
-use Rattle.base_core.specs.declared.note.Note.{Note}
-use Rattle.base_core.specs.declared.note.Note.TheVariants.{Done, Answer, Usage, BadLine, Absent, Limit, DeviceFault, Memory, Damaged}
-use Rattle.base_core.specs.declared.note.LimitName.TheVariants.{Key, Value, File}
-use Rattle.base_core.specs.declared.note.Device.TheVariants.{Host}
+use Rattle.base_devices.specs.CrashImages.{Image, DiskState}
+use Rattle.base_devices.specs.HostCalls.{told_with}
+use Rattle.base_notes.specs.Notes.{flaw_text}
+use Rattle.base_bytes.specs.OrderedMap.{Map, put, without, value_at}
+use Rattle.base_bytes.specs.Transactions.{Transaction, Store, Remove, after_transactions}
+use Rattle.base_notes.specs.declared.action.Action.{Action}
+use Rattle.base_notes.specs.declared.action.Action.TheVariants.{Get, Set, Delete, Consistent}
+use Rattle.base_bytes.specs.declared.flaw.Damage.{Damage}
+use Rattle.base_bytes.specs.declared.limits.TheConstants.{KEY_LIMIT, VALUE_LIMIT, FLAT_LIMIT}
+use Rattle.base_notes.specs.declared.note.Note.{Note}
+use Rattle.base_notes.specs.declared.note.Note.TheVariants.{Done, Answer, Usage, BadLine, Absent, Limit, DeviceFault, Memory, Damaged}
+use Rattle.base_notes.specs.declared.note.LimitName.TheVariants.{Key, Value, File}
+use Rattle.base_notes.specs.declared.note.Device.TheVariants.{Host}
 use Rattle.db_core.specs.Opening.{Holds, IsTooBig}
 use Rattle.db_core.specs.declared.fault.OpenFault.{OpenFault}
 use Rattle.db_core.specs.declared.fault.OpenFault.TheVariants.{Absent as NoFile, TooBig, NoMemory as NoRoom, DiskFault as NoDisk, Damaged as Flawed}

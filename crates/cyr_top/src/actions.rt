@@ -1,9 +1,9 @@
 // An action over the host's main file, which is flat.
 ghost use Rattle.std.specs.Prelude.{◌≡◌, ◌⊎◌, false, IfSome, IfNone};
-ghost use Rattle.base_core.specs.Causes.{HasCause, Rose};
-ghost use Rattle.base_core.specs.HostCalls.{told_with};
-ghost use Rattle.base_core.specs.declared.action.Action.TheVariants.{Consistent};
-ghost use Rattle.base_core.specs.declared.flaw.Damage.{Damage as FlawAt};
+ghost use Rattle.base_devices.specs.Causes.{HasCause, Rose};
+ghost use Rattle.base_devices.specs.HostCalls.{told_with};
+ghost use Rattle.base_notes.specs.declared.action.Action.TheVariants.{Consistent};
+ghost use Rattle.base_bytes.specs.declared.flaw.Damage.{Damage as FlawAt};
 ghost use Rattle.db_core.specs.declared.fault.OpenFault.TheVariants.{Damaged};
 ghost use Rattle.cyr_top.specs.JobOf.{CanDo};
 ghost use Rattle.cyr_top.specs.Runs.{Runs, IsMade};
@@ -13,7 +13,9 @@ ghost use Rattle.db_tool.specs.Printing.{TellsOnly};
 ghost use Rattle.rand_core.specs.Stream.{next_u32};
 
 use arrayvec::ArrayString;
-use base_core::{Action, Damage, Failed, Host, LimitName, Note};
+use base_bytes::Damage;
+use base_devices::{Failed, Host};
+use base_notes::{Action, LimitName, Note};
 use db_core::OpenFault;
 use db_tool::{HOST_FAULT, act};
 use flat_db::{check_db, create, open_db};

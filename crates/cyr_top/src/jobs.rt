@@ -2,7 +2,8 @@
 ghost use Rattle.std.specs.Prelude.{◌≡◌};
 ghost use Rattle.cyr_top.specs.declared.jobs.WordFault.TheVariants.{NoMemory as NoRoom};
 
-use base_core::{Action, Backend, NoMemory, Text};
+use base_bytes::{NoMemory, Text};
+use base_notes::{Action, Backend};
 
 /// What a command line asks for.
 #[derive(Drop)]

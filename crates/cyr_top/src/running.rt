@@ -1,13 +1,14 @@
 // The top call: words, the host's files and streams in, the status and its note out.
 ghost use Rattle.std.specs.Prelude.{◌≡◌, ◌⊎◌, ◌↔◌, ℕ, Bool, true, List, Some, None, map, string_bytes};
-ghost use Rattle.base_core.specs.Causes.{Rose};
-ghost use Rattle.base_core.specs.CrashImages.{Image, LeavesOnly, SameDisk};
-ghost use Rattle.base_core.specs.HostCalls.{told_with};
-ghost use Rattle.base_core.specs.declared.action.Action.{Action as Act};
-ghost use Rattle.base_core.specs.declared.action.Backend.TheVariants.{Flat};
-ghost use Rattle.base_core.specs.declared.note.Note.{Note};
-ghost use Rattle.base_core.specs.Notes.{note_text, status_of};
-ghost use Rattle.base_core.specs.OrderedMap.{Map};
+ghost use Rattle.base_devices.specs.Causes.{Rose};
+ghost use Rattle.base_devices.specs.CrashImages.{Image, LeavesOnly};
+ghost use Rattle.base_devices.specs.Frames.{SameDisk};
+ghost use Rattle.base_devices.specs.HostCalls.{told_with};
+ghost use Rattle.base_notes.specs.declared.action.Action.{Action as Act};
+ghost use Rattle.base_notes.specs.declared.action.Backend.TheVariants.{Flat};
+ghost use Rattle.base_notes.specs.declared.note.Note.{Note};
+ghost use Rattle.base_notes.specs.Notes.{note_text, status_of};
+ghost use Rattle.base_bytes.specs.OrderedMap.{Map};
 ghost use Rattle.cyr_top.specs.JobOf.{job_of, Asks, CanDo, IsBuiltJob};
 ghost use Rattle.cyr_top.specs.declared.jobs.Job.TheVariants.{Dbtool};
 ghost use Rattle.cyr_top.specs.Opened.{EachOpens, StartsAt, KeepsPrefix, IsNotMade};
@@ -19,7 +20,8 @@ ghost use Rattle.rand_core.specs.Stream.{next_u32};
 
 use crate::actions::make_and_do;
 use crate::{Job, WordFault, job};
-use base_core::{Action, Host, Note, Outcome};
+use base_devices::Host;
+use base_notes::{Action, Note, Outcome};
 use rand_core::Rng;
 use std::alloc::Global;
 

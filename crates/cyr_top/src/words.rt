@@ -5,7 +5,8 @@ ghost use Rattle.cyr_top.specs.JobOf.{job_of, database_job, action_of, is_operan
 ghost use Rattle.cyr_top.specs.declared.jobs.WordFault.TheVariants.{Usage};
 
 use crate::{Job, Paths, WordFault};
-use base_core::{Action, Backend, Bytes, NoMemory, Text};
+use base_bytes::{Bytes, NoMemory, Text};
+use base_notes::{Action, Backend};
 use std::alloc::Global;
 
 fn may_be_operand(word: &str) -> bool

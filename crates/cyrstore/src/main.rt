@@ -4,16 +4,18 @@
 
 ghost use Rattle.std.specs.Prelude.{◌≡◌, ◌⊎◌, ℕ, Bool, List, [], Some, None, IfOk, map, string_bytes};
 ghost use Rattle.std.specs.Process.{exit_status};
-ghost use Rattle.base_core.specs.CrashImages.{Image};
-ghost use Rattle.base_core.specs.declared.action.Action.{Action};
-ghost use Rattle.base_core.specs.declared.note.Note.{Note};
-ghost use Rattle.base_core.specs.Notes.{status_of};
-ghost use Rattle.base_core.specs.declared.status.TheConstants.{STATUS_DEVICE_FAULT, STATUS_DONE, STATUS_NO_MEMORY, STATUS_USAGE};
+ghost use Rattle.base_devices.specs.CrashImages.{Image};
+ghost use Rattle.base_notes.specs.declared.action.Action.{Action};
+ghost use Rattle.base_notes.specs.declared.note.Note.{Note};
+ghost use Rattle.base_notes.specs.Notes.{status_of};
+ghost use Rattle.base_notes.specs.declared.status.TheConstants.{STATUS_DEVICE_FAULT, STATUS_DONE, STATUS_NO_MEMORY, STATUS_USAGE};
 ghost use Rattle.cyr_top.specs.JobOf.{job_of, Asks, main_path};
 ghost use Rattle.cyr_top.specs.StatedResult.{StatedResult, IsLeft};
 ghost use Rattle.cyr_top.specs.declared.jobs.Job.{Job};
 
-use base_core::{Host, NoMemory, STATUS_NO_MEMORY, Text};
+use base_bytes::{NoMemory, Text};
+use base_devices::Host;
+use base_notes::STATUS_NO_MEMORY;
 use cyr_top::{WordFault, job, paths, run};
 use disk_kinds::FileHost;
 use rand_core::Rng;

@@ -3,15 +3,15 @@ use Rattle.std.proofs.Common.{◌≡◌, ◌⊎◌, inl, inr, ⊎_elim, Bool, �
 use Rattle.std.specs.Prelude.{if◌then◌else◌}
 use Rattle.std.proofs.lemmas.List.{drop_more}
 use Rattle.std.specs.Option.{option_or}
-use Rattle.base_core.specs.CrashImages.{Image, DiskState, GoesOn}
-use Rattle.base_core.specs.OrderedMap.{Map}
-use Rattle.base_core.specs.Transactions.{after_change}
-use Rattle.base_core.proofs.Moments.{each_then}
+use Rattle.base_devices.specs.CrashImages.{Image, DiskState, GoesOn}
+use Rattle.base_bytes.specs.OrderedMap.{Map}
+use Rattle.base_bytes.specs.Transactions.{after_change}
+use Rattle.base_devices.proofs.Moments.{each_then}
 use Rattle.db_core.specs.Sessions.{DbKind, DbState, aborted, begun}
 use Rattle.db_core.specs.Answers.{OnDisk, MayAnswer, After, broken_refusal, IsDiskFault}
 use Rattle.db_core.specs.WholeTransactions.{plain, map_after, change_after, change_refusal, changes_after, changes_refusal, MayEnd, InTransaction, GivesUp, Left, run_refusal}
-use Rattle.db_core.specs.declared.change.Change.{Change}
-use Rattle.db_core.specs.declared.change.Change.TheVariants.{Put, Del}
+use Rattle.base_bytes.specs.declared.change.Change.{Change}
+use Rattle.base_bytes.specs.declared.change.Change.TheVariants.{Put, Del}
 use Rattle.db_core.specs.declared.fault.DbFault.{DbFault}
 use Rattle.db_core.specs.declared.fault.DbFault.TheVariants.{Broken, KeyEmpty, KeyTooLong, ValueTooLong, Full, NoMemory, DiskFault}
 

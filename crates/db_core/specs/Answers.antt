@@ -1,13 +1,13 @@
 -- What the calls of a session answer, and what they do to its disk.
 use Rattle.std.specs.Prelude.{◌≡◌, ◌⊎◌, ℕ, ◌≤◌, true, false, nat_lt, ◌==◌, List, Option, Some, None, is_some, Result, OnOk, IfErr, length, if◌then◌else◌}
 use Rattle.std.specs.Option.{option_map}
-use Rattle.base_core.specs.Causes.{Rose}
-use Rattle.base_core.specs.CrashImages.{Image, DiskState, LeavesOnly}
-use Rattle.base_core.specs.OrderedMap.{value_at}
-use Rattle.base_core.specs.declared.pair.Pair.{Pair}
-use Rattle.base_core.specs.declared.limits.TheConstants.{KEY_LIMIT, VALUE_LIMIT}
+use Rattle.base_devices.specs.Causes.{Rose}
+use Rattle.base_devices.specs.CrashImages.{Image, DiskState, LeavesOnly}
+use Rattle.base_bytes.specs.OrderedMap.{value_at}
+use Rattle.base_bytes.specs.declared.pair.Pair.{Pair}
+use Rattle.base_bytes.specs.declared.limits.TheConstants.{KEY_LIMIT, VALUE_LIMIT}
 use Rattle.db_core.specs.Sessions.{DbKind, DbState}
-use Rattle.db_core.specs.declared.change.Change.TheVariants.{Put, Del}
+use Rattle.base_bytes.specs.declared.change.Change.TheVariants.{Put, Del}
 use Rattle.db_core.specs.declared.fault.DbFault.{DbFault}
 use Rattle.db_core.specs.declared.fault.DbFault.TheVariants.{Broken, KeyEmpty, KeyTooLong, ValueTooLong, Full, NoMemory, DiskFault}
 

@@ -1,8 +1,8 @@
 -- Why a database was not opened, by what its main file reads.
 use Rattle.std.specs.Prelude.{◌≡◌, ◌⊎◌, ℕ, ◌<◌, ◌≤◌, List, Some, None, Result, OnOk, IfErr, length}
-use Rattle.base_core.specs.Causes.{Rose}
-use Rattle.base_core.specs.CrashImages.{Image}
-use Rattle.base_core.specs.declared.flaw.Damage.{Damage}
+use Rattle.base_devices.specs.Causes.{Rose}
+use Rattle.base_devices.specs.CrashImages.{Image}
+use Rattle.base_bytes.specs.declared.flaw.Damage.{Damage}
 use Rattle.db_core.specs.declared.fault.OpenFault.{OpenFault}
 use Rattle.db_core.specs.declared.fault.OpenFault.TheVariants.{Absent, TooBig, NoMemory, DiskFault, Damaged}
 

@@ -2,10 +2,10 @@
 use Rattle.std.specs.Prelude.{ℕ, Bool, true, false, not, List, Option, is_some, if◌then◌else◌}
 use Rattle.std.specs.List.{find}
 use Rattle.std.specs.Ordering.{is_lt}
-use Rattle.base_core.specs.CrashImages.{Image}
-use Rattle.base_core.specs.OrderedMap.{Map, key_order, value_at, put, without}
-use Rattle.db_core.specs.declared.change.Change.{Change}
-use Rattle.db_core.specs.declared.change.Change.TheVariants.{Put, Del}
+use Rattle.base_devices.specs.CrashImages.{Image}
+use Rattle.base_bytes.specs.OrderedMap.{Map, key_order, value_at, put, without}
+use Rattle.base_bytes.specs.declared.change.Change.{Change}
+use Rattle.base_bytes.specs.declared.change.Change.TheVariants.{Put, Del}
 
 -- What a kind of database makes of files and sizes. The load is the number which, with the map, gives the file's size.
 pub record DbKind : Type 1 where
@@ -59,11 +59,3 @@ committed kind s = record s { committed = s.seen; load = load_then kind s; load_
 abbrev pub aborted : DbState → DbState
 aborted s = record s { seen = s.committed; load = s.load_committed; in_transaction = false; has_changed = false }
 
--- ---- what is read
-
--- the first pair whose key is not below this one, and the first whose key is above it
-abbrev pub first_from : Map → List ℕ → Option (List ℕ × List ℕ)
-first_from m key = find (λ p. not (is_lt (key_order p.0 key))) m
-
-abbrev pub first_above : Map → List ℕ → Option (List ℕ × List ℕ)
-first_above m key = find (λ p. is_lt (key_order key p.0)) m

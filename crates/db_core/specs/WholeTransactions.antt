@@ -1,14 +1,14 @@
 -- A transaction as a whole: all its changes, or none.
 use Rattle.std.specs.Prelude.{◌≡◌, ◌⊎◌, ℕ, ◌≤◌, true, false, List, [], ◌∷◌, fold, map, Option, Some, None, Result, OnOk, IfErr}
 use Rattle.std.specs.Option.{option_or}
-use Rattle.base_core.specs.Causes.{Rose}
-use Rattle.base_core.specs.OrderedMap.{Map}
-use Rattle.base_core.specs.Transactions.{Store, Remove, after_transaction}
-use Rattle.base_core.specs.Transactions as transactions
+use Rattle.base_devices.specs.Causes.{Rose}
+use Rattle.base_bytes.specs.OrderedMap.{Map}
+use Rattle.base_bytes.specs.Transactions.{Store, Remove, after_transaction}
+use Rattle.base_bytes.specs.Transactions as transactions
 use Rattle.db_core.specs.Sessions.{DbKind, DbState, begun, stored, deleted, committed, aborted}
 use Rattle.db_core.specs.Answers.{IsDiskFault, After, broken_refusal, store_refusal, delete_refusal}
-use Rattle.db_core.specs.declared.change.Change.{Change}
-use Rattle.db_core.specs.declared.change.Change.TheVariants.{Put, Del}
+use Rattle.base_bytes.specs.declared.change.Change.{Change}
+use Rattle.base_bytes.specs.declared.change.Change.TheVariants.{Put, Del}
 use Rattle.db_core.specs.declared.fault.DbFault.{DbFault}
 use Rattle.db_core.specs.declared.fault.DbFault.TheVariants.{NoMemory, DiskFault}
 

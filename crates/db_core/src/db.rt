@@ -1,14 +1,15 @@
 // A session over a disk.
 ghost use Rattle.std.specs.Prelude.{◌≡◌, ◌⊎◌, true, false, IsErrOf, OnOk, IfOk, IfErr, is_some, length};
 ghost use Rattle.std.specs.Option.{option_copied};
-ghost use Rattle.base_core.specs.CrashImages.{Image, LeavesSame};
-ghost use Rattle.base_core.specs.OrderedMap.{value_at};
-ghost use Rattle.db_core.specs.Sessions.{DbKind, DbState, begun, stored, deleted, committed, aborted, first_from, first_above};
+ghost use Rattle.base_devices.specs.CrashImages.{Image, LeavesSame};
+ghost use Rattle.base_bytes.specs.OrderedMap.{value_at};
+ghost use Rattle.db_core.specs.Sessions.{DbKind, DbState, begun, stored, deleted, committed, aborted,};
 ghost use Rattle.db_core.specs.Answers.{Answers, HasDbCause, OnDisk, IsDiskFault, pair_of, broken_refusal, store_refusal, delete_refusal};
 ghost use Rattle.db_core.specs.declared.fault.DbFault.TheVariants.{NoMemory, DiskFault};
 
 use crate::DbFault;
-use base_core::{Disk, Pair};
+use base_bytes::Pair;
+use base_devices::Disk;
 
 /// An open database: the committed map, which is on the disk, and in a transaction the map seen.
 ///

@@ -1,5 +1,5 @@
 // Why a call on a database was refused.
-use base_core::Damage;
+use base_bytes::Damage;
 
 /// Why a call of a session was refused, in the order in which the causes are tested.
 #[derive(Clone, Copy, Debug, PartialEq, Eq)]

@@ -3,7 +3,7 @@ ghost use Rattle.std.specs.Prelude.{◌≡◌, None};
 ghost use Rattle.db_core.specs.Answers.{pair_refusal};
 
 use crate::DbFault;
-use base_core::{KEY_LIMIT, VALUE_LIMIT};
+use base_bytes::{KEY_LIMIT, VALUE_LIMIT};
 
 /// Why a pair may not be stored: its key has no byte, or more than `KEY_LIMIT`, or its value has more than
 /// `VALUE_LIMIT`; the first of these. None where its sizes are right.

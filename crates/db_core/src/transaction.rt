@@ -4,7 +4,7 @@ ghost use Rattle.db_core.specs.Answers.{Answers, HasDbCause, OnDisk, IsDiskFault
 ghost use Rattle.db_core.specs.WholeTransactions.{AnswersSome, AnswersWhole, GivesUp, map_after, change_refusal, change_after, changes_after, changes_refusal, run_refusal, run_after};
 
 use crate::{Change, Db, DbFault};
-use base_core::Disk;
+use base_devices::Disk;
 
 // Makes one change in the transaction that stands.
 fn apply<D: Disk, B: Db<D>>(db: &mut B, disk: &mut D, change: &Change) -> Result<(), DbFault>

@@ -7,9 +7,9 @@ use Rattle.std.specs.declared.cmp.Ordering.{Ordering}
 use Rattle.std.specs.declared.cmp.Ordering.TheVariants.{Less, Equal, Greater}
 use Rattle.std.specs.Ordering.{nat_cmp, ordering_then, is_lt}
 use Rattle.std.specs.List.{starts_with}
-use Rattle.base_core.specs.OrderedMap.{Map, IsBelow, IsOrderedMap, key_order, with_prefix}
-use Rattle.base_core.proofs.OrderedMaps.{below_then, below_turned, key_itself}
-use Rattle.base_core.specs.declared.pair.Pair.{Pair}
+use Rattle.base_bytes.specs.OrderedMap.{Map, IsBelow, IsOrderedMap, key_order, with_prefix}
+use Rattle.base_bytes.proofs.OrderedMaps.{below_then, below_turned, key_itself}
+use Rattle.base_bytes.specs.declared.pair.Pair.{Pair}
 use Rattle.db_core.specs.Answers.{pair_of}
 use Rattle.db_core.specs.Sessions.{first_from, first_above}
 use Rattle.db_tool.specs.Acting.{pair_text, shown}

@@ -2,10 +2,11 @@
 use Rattle.std.proofs.Common.{◌≡◌, ⊎_elim, ℕ, List, [], ◌++◌, Option, None, Some, Result, Ok, Err, take, drop, refl, sym, ◌∙◌, ap, subst, append_assoc, arith}
 use Rattle.std.proofs.lemmas.List.{append-nil, take-append-drop}
 use Rattle.std.specs.Prelude.{OnOk}
-use Rattle.base_core.specs.Causes.{HasCause}
-use Rattle.base_core.specs.CrashImages.{DiskState, GoesOn, IsMoment}
-use Rattle.base_core.specs.HostCalls.{HostState, TellKeeps, MovesMark, told_with}
-use Rattle.base_core.proofs.Moments.{same_leaves}
+use Rattle.base_devices.specs.Causes.{HasCause}
+use Rattle.base_devices.specs.CrashImages.{DiskState, GoesOn, IsMoment}
+use Rattle.base_devices.specs.HostCalls.{HostState, MovesMark, told_with}
+use Rattle.base_devices.specs.Frames.{KeepsFiles}
+use Rattle.base_devices.proofs.Moments.{same_leaves}
 use Rattle.db_tool.specs.Acting.{ToldSome}
 use Rattle.db_tool.specs.Printing.{Prints, TellsOnly}
 
@@ -45,7 +46,7 @@ tells_then s t u st tu first second = record {
   };
 }
 
-pub tells_once : {T E : Type 0} (told : Option (List ℕ)) (s t : DiskState) (bytes : List ℕ) (result : Result T E) → MovesMark told s t bytes result → TellKeeps s t → TellsOnly s t
+pub tells_once : {T E : Type 0} (told : Option (List ℕ)) (s t : DiskState) (bytes : List ℕ) (result : Result T E) → MovesMark told s t bytes result → KeepsFiles s t → TellsOnly s t
 tells_once told s t bytes result moves keeps = record { keeps = keeps; mark = moves.from; each = moves.each }
 
 -- ---- what is told and what is held

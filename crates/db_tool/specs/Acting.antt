@@ -1,21 +1,21 @@
 -- What an action does to a map, what it prints, and how it ends.
 use Rattle.std.specs.Prelude.{◌≡◌, ◌⊎◌, ◌≤◌, ℕ, Bool, true, false, not, List, [], ◌∷◌, ◌++◌, Option, Some, None, is_some, if◌then◌else◌}
 use Rattle.std.specs.Option.{option_map}
-use Rattle.base_core.specs.Causes.{Rose}
-use Rattle.base_core.specs.CrashImages.{DiskState, LeavesOnly}
-use Rattle.base_core.specs.OrderedMap.{Map, value_at, with_prefix}
-use Rattle.base_core.specs.HostCalls.{HostState, told_with}
-use Rattle.base_core.specs.declared.action.Action.{Action}
-use Rattle.base_core.specs.declared.action.Action.TheVariants.{Show, Get, Set, Delete}
-use Rattle.base_core.specs.declared.note.Note.{Note}
-use Rattle.base_core.specs.declared.note.Note.TheVariants.{Done, Answer, BadLine, Limit, DeviceFault, Memory}
-use Rattle.base_core.specs.declared.note.LimitName.TheVariants.{Key, Value, File}
-use Rattle.base_core.specs.declared.note.Device.TheVariants.{Host}
+use Rattle.base_devices.specs.Causes.{Rose}
+use Rattle.base_devices.specs.CrashImages.{DiskState, LeavesOnly}
+use Rattle.base_bytes.specs.OrderedMap.{Map, value_at, with_prefix}
+use Rattle.base_devices.specs.HostCalls.{HostState, told_with}
+use Rattle.base_notes.specs.declared.action.Action.{Action}
+use Rattle.base_notes.specs.declared.action.Action.TheVariants.{Show, Get, Set, Delete}
+use Rattle.base_notes.specs.declared.note.Note.{Note}
+use Rattle.base_notes.specs.declared.note.Note.TheVariants.{Done, Answer, BadLine, Limit, DeviceFault, Memory}
+use Rattle.base_notes.specs.declared.note.LimitName.TheVariants.{Key, Value, File}
+use Rattle.base_notes.specs.declared.note.Device.TheVariants.{Host}
 use Rattle.db_core.specs.Sessions.{DbKind, DbState}
 use Rattle.db_core.specs.WholeTransactions.{map_after, run_after, run_refusal}
 use Rattle.db_tool.specs.Printing.{TellsOnly}
-use Rattle.db_core.specs.declared.change.Change.{Change}
-use Rattle.db_core.specs.declared.change.Change.TheVariants.{Put, Del}
+use Rattle.base_bytes.specs.declared.change.Change.{Change}
+use Rattle.base_bytes.specs.declared.change.Change.TheVariants.{Put, Del}
 use Rattle.db_core.specs.declared.fault.DbFault.{DbFault}
 use Rattle.db_core.specs.declared.fault.DbFault.TheVariants.{KeyEmpty, KeyTooLong, ValueTooLong, Full, NoMemory}
 

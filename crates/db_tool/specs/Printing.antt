@@ -1,12 +1,13 @@
 -- Output is gathered, and told in pieces.
 use Rattle.std.specs.Prelude.{◌≡◌, ℕ, ◌≤◌, List, ◌++◌, Result, OnOk}
-use Rattle.base_core.specs.Causes.{HasCause}
-use Rattle.base_core.specs.CrashImages.{DiskState, LeavesOnly}
-use Rattle.base_core.specs.HostCalls.{HostState, TellKeeps, told_with}
+use Rattle.base_devices.specs.Causes.{HasCause}
+use Rattle.base_devices.specs.CrashImages.{DiskState, LeavesOnly}
+use Rattle.base_devices.specs.HostCalls.{HostState, told_with}
+use Rattle.base_devices.specs.Frames.{KeepsFiles}
 
 -- Nothing of the disk changed but the mark and the moments: each image left could be left at the start, and the mark rose to where it stands.
 pub record TellsOnly (s t : DiskState) : Type 0 where
-  pub keeps : TellKeeps s t
+  pub keeps : KeepsFiles s t
   pub mark : s.mark ≤ t.mark
   pub each : LeavesOnly s t (λ c n. s.leaves c × (s.mark ≤ n) × (n ≤ t.mark))
 

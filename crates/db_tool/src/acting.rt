@@ -1,21 +1,23 @@
 // What the actions of `cyr_dbtool` do with an open database.
 ghost use Rattle.std.specs.Prelude.{◌≡◌, ◌⊎◌, ◌∷◌, ℕ, ◌++◌, [], false, None, Some, IfOk, OnOk, is_some, if◌then◌else◌};
 ghost use Rattle.std.specs.Option.{option_map};
-ghost use Rattle.base_core.specs.Causes.{HasCause, Rose};
-ghost use Rattle.base_core.specs.HostCalls.{told_with};
-ghost use Rattle.base_core.specs.Notes.{status_of};
-ghost use Rattle.base_core.specs.OrderedMap.{IsOrderedMap, value_at, with_prefix};
-ghost use Rattle.base_core.specs.declared.action.Action.TheVariants.{Set, Delete};
-ghost use Rattle.base_core.specs.declared.note.Note.{Note};
+ghost use Rattle.base_devices.specs.Causes.{HasCause, Rose};
+ghost use Rattle.base_devices.specs.HostCalls.{told_with};
+ghost use Rattle.base_notes.specs.Notes.{status_of};
+ghost use Rattle.base_bytes.specs.OrderedMap.{IsOrderedMap, value_at, with_prefix};
+ghost use Rattle.base_notes.specs.declared.action.Action.TheVariants.{Set, Delete};
+ghost use Rattle.base_notes.specs.declared.note.Note.{Note};
 ghost use Rattle.db_core.specs.Answers.{OnDisk};
-ghost use Rattle.db_core.specs.declared.change.Change.TheVariants.{Put};
+ghost use Rattle.base_bytes.specs.declared.change.Change.TheVariants.{Put};
 ghost use Rattle.db_core.specs.WholeTransactions.{map_after, run_after, run_refusal};
 ghost use Rattle.rand_core.specs.Stream.{next_u32};
 ghost use Rattle.db_tool.specs.Acting.{Acts, CanAct, value_line, pair_text, shown, lacks_key, draws_word, change_note, IsEnd, IsFault, MayRefuse, ToldSome, Looks};
 ghost use Rattle.db_tool.specs.Printing.{Prints, TellsOnly};
 
 use crate::output::{flush, print};
-use base_core::{Action, Bytes, Device, Failed, Host, LimitName, NoMemory, Note, Outcome, Piece};
+use base_bytes::{Bytes, NoMemory, Piece};
+use base_devices::{Failed, Host};
+use base_notes::{Action, Device, LimitName, Note, Outcome};
 use db_core::{Change, Db, DbFault, run_changes};
 use rand_core::Rng;
 use std::alloc::Global;

@@ -1,9 +1,10 @@
 // Output is gathered and told in large pieces.
 ghost use Rattle.std.specs.Prelude.{◌≡◌, ◌<◌, ◌-◌, [], OnOk, length};
-ghost use Rattle.base_core.specs.declared.limits.TheConstants.{PIECE_SIZE};
+ghost use Rattle.base_bytes.specs.declared.limits.TheConstants.{PIECE_SIZE};
 ghost use Rattle.db_tool.specs.Printing.{Prints};
 
-use base_core::{Failed, Host, Piece};
+use base_bytes::Piece;
+use base_devices::{Failed, Host};
 
 /// Tells what is gathered, if anything.
 pub(crate) fn flush<H: Host>(host: &mut H, output: &mut Piece) -> Result<(), Failed>

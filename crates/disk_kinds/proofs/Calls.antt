@@ -1,6 +1,6 @@
 -- Calls of a disk in memory that note one step.
 use Rattle.std.proofs.Common.{◌≡◌, ◌⊎◌, ◌≤◌, ◌++◌, ◌∷◌, [], sym, subst}
-use Rattle.base_core.specs.CrashImages.{GoesOn}
+use Rattle.base_devices.specs.CrashImages.{GoesOn}
 use Rattle.disk_kinds.specs.History.{Step, first_moment, start_image, fresh_of}
 use Rattle.disk_kinds.specs.CallLog.{log_steps, SameBounds}
 use Rattle.disk_kinds.specs.Memory.{MemRest, mem_state, state_of, stop_of}

@@ -2,10 +2,10 @@
 use Rattle.std.proofs.Common.{◌≡◌, ◌⊎◌, inl, inr, ⊎_elim, ℕ, ◌+◌, ◌-◌, ◌%◌, ◌≤◌, Bool, true, false, List, [], ◌∷◌, length, take, drop, Some, refl, sym, ◌∙◌, ap, subst, arith, length-take}
 use Rattle.std.specs.Prelude.{replicate, option_map, if◌then◌else◌}
 use Rattle.std.proofs.lemmas.List.{take_all, drop_all, take-append-drop, length-replicate}
-use Rattle.base_core.specs.CrashImages.{Image}
-use Rattle.base_core.specs.DiskCalls.{OnFile}
-use Rattle.base_core.specs.Landing.{Lands, Shortens}
-use Rattle.base_core.proofs.Landings.{lands_none, lands_both, lands_pad, shortens_whole, shortens_none}
+use Rattle.base_devices.specs.CrashImages.{Image}
+use Rattle.base_devices.specs.DiskCalls.{OnFile}
+use Rattle.base_bytes.specs.Landing.{Lands, Shortens}
+use Rattle.base_bytes.proofs.Landings.{lands_none, lands_both, lands_pad, shortens_whole, shortens_none}
 use Rattle.disk_kinds.specs.History.{Change, laid, shortened, replaced, LeftBy, Happens, landing_count}
 use Rattle.disk_kinds.specs.Left.{line_end, laid_at, is_landed, with_lines, with_change, with_changes}
 use Rattle.disk_kinds.proofs.Pending.{same_file, changed_file}

@@ -2,10 +2,10 @@
 use Rattle.std.proofs.Common.{◌≡◌, ◌⊎◌, inl, inr, ℕ, ◌+◌, ◌<◌, List, [], ◌∷◌, ◌++◌, length, take, drop, Some, None, refl, sym, ◌∙◌, ap, subst, arith, add-zero, append-nil}
 use Rattle.std.specs.Option.{option_map}
 use Rattle.std.proofs.lemmas.List.{take-append-drop}
-use Rattle.base_core.specs.CrashImages.{Image}
-use Rattle.base_core.specs.DiskCalls.{OnFile}
-use Rattle.base_core.specs.Landing.{Lands, Shortens, written_at}
-use Rattle.base_core.proofs.Landings.{lands_whole, lands_none, shortens_whole, shortens_none}
+use Rattle.base_devices.specs.CrashImages.{Image}
+use Rattle.base_devices.specs.DiskCalls.{OnFile}
+use Rattle.base_bytes.specs.Landing.{Lands, Shortens, written_at}
+use Rattle.base_bytes.proofs.Landings.{lands_whole, lands_none, shortens_whole, shortens_none}
 use Rattle.disk_kinds.specs.History.{Step, Moment, Change, main_written, write_pending, main_cut, cut_pending, publish_pending, kept, new_begun, new_extended, main_synced, new_published, output, with_write, moment_step, moment_after, first_moment, LeftBy, IsImage}
 
 -- ---- steps of a file

@@ -2,7 +2,7 @@
 use Rattle.std.proofs.Common.{◌≡◌, ◌⊎◌, ⊎_elim, ℕ, zero, suc, ◌+◌, ◌-◌, ◌*◌, ◌/◌, ◌%◌, ◌<◌, ◌≤◌, min, Bool, true, false, List, [], ◌∷◌, length, take, drop, Some, None, refl, sym, ◌∙◌, ap, subst, arith, length-drop}
 use Rattle.std.specs.Prelude.{option_map, if◌then◌else◌}
 use Rattle.std.proofs.lemmas.List.{take_all, drop_all, drop-drop}
-use Rattle.base_core.specs.CrashImages.{Image}
+use Rattle.base_devices.specs.CrashImages.{Image}
 use Rattle.disk_kinds.specs.History.{line_count}
 use Rattle.disk_kinds.specs.Left.{line_end, laid_at, is_landed, with_lines}
 use Rattle.disk_kinds.proofs.LeftImages.{no_lines}

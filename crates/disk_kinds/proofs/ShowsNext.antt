@@ -2,8 +2,8 @@
 use Rattle.std.proofs.Common.{◌≡◌, ℕ, ◌+◌, Bool, List, [], ◌∷◌, length, take, drop, Some, None, refl, sym, ◌∙◌, ap, subst, arith}
 use Rattle.std.specs.Prelude.{option_map, if◌then◌else◌}
 use Rattle.std.proofs.lemmas.List.{take_all, drop-drop}
-use Rattle.base_core.specs.CrashImages.{Image}
-use Rattle.base_core.specs.Landing.{written_at}
+use Rattle.base_devices.specs.CrashImages.{Image}
+use Rattle.base_bytes.specs.Landing.{written_at}
 use Rattle.disk_kinds.specs.History.{Moment, Change, shortened, replaced, with_write, landing_count, line_count, size_of, step_of, moment_step}
 use Rattle.disk_kinds.specs.Left.{is_landed, with_lines, with_change, with_changes}
 use Rattle.disk_kinds.specs.ReplaySteps.{main_of, left_of, UsesUp}

@@ -1,8 +1,8 @@
 -- A call of a disk in memory notes one step at most, so time goes on.
 use Rattle.std.proofs.Common.{◌≡◌, ◌⊎◌, inl, inr, ⊎_elim, ℕ, ◌+◌, ◌≤◌, Option, Some, refl, [], ◌∷◌, ◌++◌, length, List, ap, sym, ◌∙◌, subst, arith, length-append}
-use Rattle.base_core.specs.CrashImages.{GoesOn, Image, Fresh, LeavesOnly}
-use Rattle.base_core.specs.DiskCalls.{DiskCall}
-use Rattle.base_core.specs.HostCalls.{TellKeeps}
+use Rattle.base_devices.specs.CrashImages.{GoesOn, Image, Fresh, LeavesOnly}
+use Rattle.base_devices.specs.DiskCalls.{DiskCall}
+use Rattle.base_devices.specs.Frames.{KeepsFiles}
 use Rattle.std.proofs.lemmas.List.Sums.{fold-append}
 use Rattle.disk_kinds.specs.Replay.{LeftSince, replay_now, replay_keeps, replay_adds, replay_counts, replay_earlier, after}
 use Rattle.disk_kinds.specs.Memory.{state_of}
@@ -107,7 +107,7 @@ clock_rises old new e noted same = absurd (omega (arith, same, ap length noted, 
 pub tell_marks : (start : Moment) (old new : List Step) (count : ℕ) → new ≡ old ++ output count ∷ [] → (moment_after start new).mark ≡ (moment_after start old).mark + count
 tell_marks start old new count noted = ap mark_of (after_one start old new (output count) noted)
 
-pub tell_keeps : (start : Moment) (old new : List Step) (count : ℕ) (fresh : Option Fresh) (faults faults' written publishes : ℕ) → new ≡ old ++ output count ∷ [] → TellKeeps (state_of start old fresh faults written publishes) (state_of start new fresh faults' written publishes)
+pub tell_keeps : (start : Moment) (old new : List Step) (count : ℕ) (fresh : Option Fresh) (faults faults' written publishes : ℕ) → new ≡ old ++ output count ∷ [] → KeepsFiles (state_of start old fresh faults written publishes) (state_of start new fresh faults' written publishes)
 tell_keeps start old new count fresh faults faults' written publishes noted =
     let played : moment_after start new ≡ moment_step (moment_after start old) (output count) = after_one start old new (output count) noted in
     record {

@@ -3,10 +3,10 @@ use Rattle.std.proofs.Common.{◌≡◌, ◌⊎◌, inl, inr, ⊎_elim, ℕ, zer
 use Rattle.std.specs.Prelude.{Result, Ok, Err, OnOk}
 use Rattle.std.specs.Option.{option_map}
 use Rattle.std.proofs.lemmas.List.{take_all, take-append-drop}
-use Rattle.base_core.specs.CrashImages.{Image, Fresh}
-use Rattle.base_core.specs.DiskCalls.{OnFile, Writes, Cuts, new_image}
-use Rattle.base_core.specs.Landing.{Lands, Shortens, written_at}
-use Rattle.base_core.proofs.Landings.{lands_whole, lands_none, lands_prefix, shortens_whole, shortens_none}
+use Rattle.base_devices.specs.CrashImages.{Image, Fresh}
+use Rattle.base_devices.specs.DiskCalls.{OnFile, Writes, Cuts, new_image}
+use Rattle.base_bytes.specs.Landing.{Lands, Shortens, written_at}
+use Rattle.base_bytes.proofs.Landings.{lands_whole, lands_none, lands_prefix, shortens_whole, shortens_none}
 use Rattle.disk_kinds.specs.History.{Step, Moment, Change, main_written, write_pending, main_cut, cut_pending, publish_pending, shortened, replaced, line_count, first_bytes, landing_count, with_write, moment_step, moment_after, first_moment, start_image, fresh_of, Happens, LeftBy, IsImage}
 use Rattle.disk_kinds.specs.CallLog.{log_steps}
 use Rattle.disk_kinds.specs.Landings.{before_stop}

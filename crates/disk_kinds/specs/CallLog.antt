@@ -1,6 +1,6 @@
 -- The record of calls that a disk in memory keeps.
 use Rattle.std.specs.Prelude.{◌≡◌, ℕ, ◌+◌, ◌-◌, ◌*◌, ◌^◌, ◌<◌, ◌≤◌, ◌⊎◌, min, Bool, IsTrue, List, [], ◌∷◌, ◌++◌, vec_len, Contains, Result, OnErr, OnOk}
-use Rattle.base_core.specs.Causes.{Rose}
+use Rattle.base_devices.specs.Causes.{Rose}
 use Rattle.disk_kinds.specs.History.{Step, kept, steps_of}
 use Rattle.disk_kinds.specs.declared.call_log.CallLog.{CallLog}
 use Rattle.disk_kinds.specs.declared.call_log.Admission.{Admission}

@@ -1,8 +1,8 @@
 -- What the real devices tell: how often they failed and published, how much they wrote, and nothing of their contents.
 use Rattle.std.specs.Prelude.{ℕ, ◌+◌, ◌-◌, ◌^◌, min, None}
-use Rattle.base_core.specs.CrashImages.{DiskState, IsMoment}
-use Rattle.base_core.specs.HostCalls.{HostState}
-use Rattle.base_core.specs.Untold.{counts_only, counts_moment}
+use Rattle.base_devices.specs.CrashImages.{DiskState, IsMoment}
+use Rattle.base_devices.specs.HostCalls.{HostState}
+use Rattle.base_devices.specs.Untold.{counts_only, counts_moment}
 
 -- how often a call of a real disk failed, how many bytes were passed to writes into its main file, and how often its
 -- new file was to take the main file's place

@@ -3,9 +3,9 @@ use Rattle.std.specs.Prelude.{◌≡◌, ◌⊎◌, ℕ, zero, suc, ◌+◌, ◌
 use Rattle.std.specs.Option.{option_map}
 use Rattle.std.specs.Borrow.{Bor}
 use Rattle.std.specs.declared.alloc.Global.{Global}
-use Rattle.base_core.specs.CrashImages.{Image, Fresh}
-use Rattle.base_core.specs.DiskCalls.{OnFile}
-use Rattle.base_core.specs.Landing.{written_at, Lands, Shortens}
+use Rattle.base_devices.specs.CrashImages.{Image, Fresh}
+use Rattle.base_devices.specs.DiskCalls.{OnFile}
+use Rattle.base_bytes.specs.Landing.{written_at, Lands, Shortens}
 use Rattle.disk_kinds.specs.Replay.{after}
 use Rattle.disk_kinds.specs.declared.call_log.Event.{Event}
 use Rattle.disk_kinds.specs.declared.call_log.Event.TheVariants.{Kept, Began, Appended, Wrote, WritePending, Cut, CutPending, Synced, Published, PublishPending, Told}

@@ -1,8 +1,8 @@
 -- The image that a stop leaves, by which of the pending landings landed.
 use Rattle.std.specs.Prelude.{ℕ, ◌+◌, ◌-◌, ◌*◌, ◌/◌, Bool, true, false, List, [], ◌∷◌, ◌++◌, Some, length, take, drop, replicate, if◌then◌else◌}
 use Rattle.std.specs.Option.{option_map}
-use Rattle.base_core.specs.CrashImages.{Image}
-use Rattle.base_core.specs.Landing.{written_at}
+use Rattle.base_devices.specs.CrashImages.{Image}
+use Rattle.base_bytes.specs.Landing.{written_at}
 use Rattle.disk_kinds.specs.History.{Change, laid, shortened, replaced, landing_count}
 use Rattle.disk_kinds.specs.Memory.{now_of}
 use Rattle.disk_kinds.specs.declared.memory.MemDisk.{MemDisk}

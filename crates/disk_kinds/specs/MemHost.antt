@@ -1,8 +1,8 @@
 -- A host in memory as its traits see it, and when its calls fail.
 use Rattle.std.specs.Prelude.{◌≡◌, ◌⊎◌, ℕ, ◌+◌, ◌-◌, ◌<◌, ◌≤◌, ◌^◌, min, Bool, true, false, List, Option, Some, None, Contains, vec_len}
 use Rattle.std.proofs.Common.{refl, ◌∙◌}
-use Rattle.base_core.specs.CrashImages.{DiskState}
-use Rattle.base_core.specs.HostCalls.{HostState}
+use Rattle.base_devices.specs.CrashImages.{DiskState}
+use Rattle.base_devices.specs.HostCalls.{HostState}
 use Rattle.disk_kinds.specs.Memory.{mem_state, record_left, next_call, IsStopped, MemRest, mem_rest_same, mem_rest_then}
 use Rattle.disk_kinds.specs.declared.memory.MemDisk.{MemDisk}
 use Rattle.disk_kinds.specs.declared.mem_host.MemHost.{MemHost}

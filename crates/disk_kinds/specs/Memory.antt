@@ -1,11 +1,11 @@
 -- A disk in memory as its trait sees it, and when its calls fail.
 use Rattle.std.specs.Prelude.{◌≡◌, ◌⊎◌, ◌↔◌, ℕ, ◌+◌, ◌-◌, ◌<◌, ◌≤◌, ◌^◌, ◌*◌, min, max, List, Option, Some, Result, OnOk, OnErr, Contains, length, take}
 use Rattle.std.proofs.Common.{inl, refl}
-use Rattle.base_core.specs.CrashImages.{Image, Fresh, DiskState, IsMoment, GoesOn, LeavesOnly}
-use Rattle.base_core.specs.DiskCalls.{OnFile, new_image}
-use Rattle.base_core.specs.Landing.{Lands, Shortens}
-use Rattle.base_core.specs.HostCalls.{TellKeeps}
-use Rattle.base_core.specs.Time.{goes_same, goes_then}
+use Rattle.base_devices.specs.CrashImages.{Image, Fresh, DiskState, IsMoment, GoesOn, LeavesOnly}
+use Rattle.base_devices.specs.DiskCalls.{OnFile, new_image}
+use Rattle.base_bytes.specs.Landing.{Lands, Shortens}
+use Rattle.base_devices.specs.Frames.{KeepsFiles}
+use Rattle.base_devices.specs.Time.{goes_same, goes_then}
 use Rattle.disk_kinds.specs.Replay.{LeftSince, replay_now, replay_counts, replay_earlier}
 use Rattle.disk_kinds.specs.History.{Step, Moment, line_count, first_bytes, landing_count, moment_step, first_moment, moment_after, IsImage, mark_of, start_image, fresh_of}
 use Rattle.disk_kinds.specs.Landings.{before_stop, Passes}
@@ -179,7 +179,7 @@ pub record NotesTell {T E : Type 0} (old new : MemDisk) (count : ℕ) (result : 
   pub err : OnErr result ((mem_state new).mark ≡ (mem_state old).mark)
   pub each : LeavesOnly (mem_state old) (mem_state new) (λ c n. (mem_state old).leaves c × ((mem_state old).mark ≤ n) × (n ≤ (mem_state new).mark))
   pub stands : (mem_state new).clock ≡ (mem_state old).clock → (mem_state new).mark ≡ (mem_state old).mark
-  pub keeps : TellKeeps (mem_state old) (mem_state new)
+  pub keeps : KeepsFiles (mem_state old) (mem_state new)
   pub next : next_call new ≡ next_call old
   pub rest : MemRest old new
 

@@ -2,7 +2,7 @@
 use Rattle.std.specs.Prelude.{◌≡◌, ◌⊎◌, ℕ, ◌+◌, ◌≤◌, List, [], ◌∷◌, ◌++◌, length, take, fold}
 use Rattle.std.proofs.Common.{inl, inr, sym, ◌∙◌, ap, subst, arith, length-append}
 use Rattle.std.proofs.lemmas.List.{take_all, take-append-le}
-use Rattle.base_core.specs.CrashImages.{Image}
+use Rattle.base_devices.specs.CrashImages.{Image}
 
 module _ {M E : Type 0} (step : M → E → M) (may_leave : M → Image → Type 0) (mark_of : M → ℕ) where
   -- what stands after these events

@@ -1,6 +1,6 @@
 -- What a step of a replay changes.
 use Rattle.std.specs.Prelude.{◌≡◌, ℕ, Bool, List, drop}
-use Rattle.base_core.specs.CrashImages.{Image}
+use Rattle.base_devices.specs.CrashImages.{Image}
 use Rattle.disk_kinds.specs.History.{image_of}
 use Rattle.disk_kinds.specs.declared.replay.Replay.{Replay}
 

@@ -1,10 +1,10 @@
 // Memory that is taken at once.
 ghost use Rattle.std.specs.Prelude.{◌≡◌, ◌≤◌, ◌+◌, [], ℕ, max, IfOk, OnOk, length, vec_len, vec_capacity};
-ghost use Rattle.base_core.specs.Landing.{written_at};
+ghost use Rattle.base_bytes.specs.Landing.{written_at};
 ghost use Rattle.disk_kinds.specs.History.{given_image, start_image, image_size, FitsIn};
 ghost use Rattle.disk_kinds.specs.Left.{laid_at};
 
-use base_core::NoMemory;
+use base_bytes::NoMemory;
 use std::alloc::Global;
 
 // An empty vector with room for so many elements.

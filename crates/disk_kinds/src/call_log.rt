@@ -5,7 +5,8 @@ ghost use Rattle.disk_kinds.specs.History.{total_size, size_of, is_within};
 
 use crate::buffers::{copied, with_room};
 use crate::landings::Landings;
-use base_core::{Failed, NoMemory};
+use base_bytes::NoMemory;
+use base_devices::Failed;
 use std::alloc::Global;
 
 /// A step of the past. The bytes that an event has for its own lie in the record.

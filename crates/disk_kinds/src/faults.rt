@@ -1,9 +1,9 @@
 // Counting the faults of a real device.
 ghost use Rattle.std.specs.Prelude.{◌≡◌, IsErr, MatchResult};
-ghost use Rattle.base_core.specs.Causes.{HasCause};
+ghost use Rattle.base_devices.specs.Causes.{HasCause};
 ghost use Rattle.disk_kinds.specs.Files.{next_count};
 
-use base_core::Failed;
+use base_devices::Failed;
 
 /// The answer, whose error is counted as a fault. The count stands still at its last value.
 pub(crate) fn counted<T: Drop, E: Drop>(faults: &mut u64, answer: Result<T, E>) -> Result<T, Failed>

@@ -1,14 +1,15 @@
 // A disk of two real files.
 ghost use Rattle.std.specs.Prelude.{◌≡◌, length};
-ghost use Rattle.base_core.specs.Causes.{HasCause};
-ghost use Rattle.base_core.specs.CrashImages.{GoesOn};
-ghost use Rattle.base_core.specs.DiskCalls.{DiskCall, Writes, Publishes};
-ghost use Rattle.base_core.specs.Time.{goes_same, goes_then};
+ghost use Rattle.base_devices.specs.Causes.{HasCause};
+ghost use Rattle.base_devices.specs.CrashImages.{GoesOn};
+ghost use Rattle.base_devices.specs.DiskCalls.{DiskCall, Writes, Publishes};
+ghost use Rattle.base_devices.specs.Time.{goes_same, goes_then};
 ghost use Rattle.disk_kinds.specs.Files.{next_count, raised_by, no_calls, untold, untold_moment};
 
 use crate::faults::counted;
 use crate::real::{MainFile, NewFile};
-use base_core::{Disk, Failed, Text};
+use base_bytes::Text;
+use base_devices::{Disk, Failed};
 use std::io::{self, ErrorKind};
 use std::marker::Model;
 use std::os::fd::AsRawFd;

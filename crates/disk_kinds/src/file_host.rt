@@ -1,15 +1,16 @@
 // A host of two real files and the standard streams.
 ghost use Rattle.std.specs.Prelude.{◌≡◌, length};
 ghost use Rattle.std.proofs.Common.{refl, ap, ◌∙◌};
-ghost use Rattle.base_core.specs.Causes.{HasCause};
-ghost use Rattle.base_core.specs.CrashImages.{GoesOn};
-ghost use Rattle.base_core.specs.DiskCalls.{DiskCall, Writes, Publishes};
-ghost use Rattle.base_core.specs.Time.{goes_same, goes_then};
+ghost use Rattle.base_devices.specs.Causes.{HasCause};
+ghost use Rattle.base_devices.specs.CrashImages.{GoesOn};
+ghost use Rattle.base_devices.specs.DiskCalls.{DiskCall, Writes, Publishes};
+ghost use Rattle.base_devices.specs.Time.{goes_same, goes_then};
 ghost use Rattle.disk_kinds.specs.Files.{next_count, raised_by, no_calls, untold, untold_moment, untold_streams};
 
 use crate::faults::counted;
 use crate::file::FileDisk;
-use base_core::{Disk, Failed, Host, Text};
+use base_bytes::Text;
+use base_devices::{Disk, Failed, Host};
 use std::fmt;
 use std::io::{Eprint, Print};
 use std::marker::Model;

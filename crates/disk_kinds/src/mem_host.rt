@@ -4,7 +4,8 @@ ghost use Rattle.std.specs.Prelude.{◌≤◌, vec_len, vec_capacity};
 use crate::buffers::{copied, with_room};
 use crate::call_log::is_listed;
 use crate::memory::MemDisk;
-use base_core::{Disk, Failed, Host, NoMemory};
+use base_bytes::NoMemory;
+use base_devices::{Disk, Failed, Host};
 use std::alloc::Global;
 
 /// A disk in memory with the bytes that were told and warned, which takes all its memory at once and has
@@ -90,9 +91,9 @@ impl MemHost {
 impl Disk for MemHost {
     ghost use Rattle.std.specs.Option.{option_map};
     ghost use Rattle.std.specs.Prelude.{◌≡◌, ◌↔◌, ◌+◌, ◌<◌, ◌^◌, ◌-◌, ℕ, min, length, take, drop, List, Some, None, IsSome, IsErr, IfOk, OnOk, OnErr};
-    ghost use Rattle.base_core.specs.Causes.{HasCause};
-    ghost use Rattle.base_core.specs.CrashImages.{Image, KeepsMain};
-    ghost use Rattle.base_core.specs.DiskCalls.{DiskCall, IsLength, HasByteAt, HasOffset, begun, appended, synced, IsWhole, Writes, Cuts, Syncs, Publishes};
+    ghost use Rattle.base_devices.specs.Causes.{HasCause};
+    ghost use Rattle.base_devices.specs.CrashImages.{Image, KeepsMain};
+    ghost use Rattle.base_devices.specs.DiskCalls.{DiskCall, IsLength, HasByteAt, HasOffset, begun, appended, synced, IsWhole, Writes, Cuts, Syncs, Publishes};
     ghost use Rattle.disk_kinds.specs.History.{line_count};
     ghost use Rattle.disk_kinds.specs.Memory.{mem_moment, record_left, CannotServe, CannotLand, CannotWrite, HasLandingRoom, HasWriteRoom, CountsCall, Makes, WritePends, CutPends, PublishPends};
     ghost use Rattle.disk_kinds.specs.MemHost.{disk_of, host_state, HostDiskRest, host_disk_same, host_disk_then};
@@ -238,9 +239,9 @@ impl Disk for MemHost {
 
 impl Host for MemHost {
     ghost use Rattle.std.specs.Prelude.{◌≡◌, ◌⊎◌, ◌↔◌, ◌-◌, ◌<◌, ◌++◌, None, IsErr, IsNone, OnOk, OnErr, length, take};
-    ghost use Rattle.base_core.specs.Causes.{HasCause};
-    ghost use Rattle.base_core.specs.CrashImages.{SameDisk};
-    ghost use Rattle.base_core.specs.HostCalls.{TellKeeps, MovesMark, told_with};
+    ghost use Rattle.base_devices.specs.Causes.{HasCause};
+    ghost use Rattle.base_devices.specs.CrashImages.{SameDisk};
+    ghost use Rattle.base_devices.specs.HostCalls.{KeepsFiles, MovesMark, told_with};
     ghost use Rattle.disk_kinds.specs.MemHost.{disk_of, host_state, host_streams, warned_kept, warned_left, next_tell, CannotTell, CountsTell, HostRest, host_rest_same, host_rest_then};
 
     ghost streams = { host_streams };
@@ -266,7 +267,7 @@ impl Host for MemHost {
         ensures warned { (host_streams self.new).warned ≡ (host_streams self.old).warned }
         ensures kept { warned_kept self.new ≡ warned_kept self.old }
         ensures mark { MovesMark (host_streams self.old).told (host_state self.old) (host_state self.new) bytes.now result }
-        ensures disk { TellKeeps (host_state self.old) (host_state self.new) }
+        ensures disk { KeepsFiles (host_state self.old) (host_state self.new) }
         ensures cause { HasCause (host_state self.old).faults (host_state self.new).faults result }
         ensures tell_cause { HasCause (host_streams self.old).tell_faults (host_streams self.new).tell_faults result }
         ensures rest { HostRest self.old self.new }

@@ -8,7 +8,8 @@ use crate::call_log::{Admission, CallLog, Event};
 use crate::landings::Landings;
 use crate::lines::{first_bytes, line_count};
 use crate::playing::replayed;
-use base_core::{Disk, Failed, NoMemory};
+use base_bytes::NoMemory;
+use base_devices::{Disk, Failed};
 use std::alloc::Global;
 use std::mem;
 
@@ -71,7 +72,7 @@ pub struct MemDisk {
 
 impl MemDisk {
     ghost use Rattle.std.specs.Prelude.{[], Some, None, IfOk};
-    ghost use Rattle.base_core.specs.CrashImages.{IsDurable};
+    ghost use Rattle.base_devices.specs.CrashImages.{IsDurable};
     ghost use Rattle.disk_kinds.specs.History.{FitsIn, given_image};
     ghost use Rattle.disk_kinds.specs.Memory.{mem_state, fail_list, next_call, record_room, record_left, landings_made, landings_pending, stop_of, SameButStop};
     ghost use Rattle.disk_kinds.specs.Left.{left_image};
@@ -180,9 +181,9 @@ impl MemDisk {
 impl Disk for MemDisk {
     ghost use Rattle.std.specs.Option.{option_map};
     ghost use Rattle.std.specs.Prelude.{◌↔◌, ◌<◌, ◌^◌, ◌-◌, ℕ, min, length, take, drop, List, Some, None, IsSome, IsErr, IfOk, OnOk, OnErr};
-    ghost use Rattle.base_core.specs.Causes.{HasCause};
-    ghost use Rattle.base_core.specs.CrashImages.{Image, KeepsMain};
-    ghost use Rattle.base_core.specs.DiskCalls.{DiskCall, IsLength, HasByteAt, HasOffset, begun, appended, synced, IsWhole, Writes, Cuts, Syncs, Publishes};
+    ghost use Rattle.base_devices.specs.Causes.{HasCause};
+    ghost use Rattle.base_devices.specs.CrashImages.{Image, KeepsMain};
+    ghost use Rattle.base_devices.specs.DiskCalls.{DiskCall, IsLength, HasByteAt, HasOffset, begun, appended, synced, IsWhole, Writes, Cuts, Syncs, Publishes};
     ghost use Rattle.disk_kinds.specs.History.{line_count};
     ghost use Rattle.disk_kinds.specs.Memory.{mem_state, mem_moment, MemRest, mem_rest_same, mem_rest_then, record_left, CannotServe, CannotLand, CannotWrite, HasLandingRoom, HasWriteRoom, CountsCall, Makes, WritePends, CutPends, PublishPends};
 
@@ -447,7 +448,7 @@ impl Disk for MemDisk {
 
 impl MemDisk {
     ghost use Rattle.std.specs.Prelude.{◌↔◌, ◌⊎◌, ◌<◌, ◌≤◌, IsTrue, IsErr};
-    ghost use Rattle.base_core.specs.Causes.{HasCause};
+    ghost use Rattle.base_devices.specs.Causes.{HasCause};
     ghost use Rattle.disk_kinds.specs.Memory.{mem_state, record_left, IsStopped, Takes, NotesTell};
 
     // A tell of the host around the disk: it tells so many bytes, unless the host's list has it.

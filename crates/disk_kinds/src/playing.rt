@@ -6,7 +6,7 @@ ghost use Rattle.disk_kinds.specs.Replayed.{Shows};
 
 use crate::call_log::{CallLog, Event};
 use crate::replay::Replay;
-use base_core::NoMemory;
+use base_bytes::NoMemory;
 use std::alloc::Global;
 
 impl Replay {

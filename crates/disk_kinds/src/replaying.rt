@@ -1,10 +1,10 @@
 // A record of calls played again, to see what a stop leaves of the main file.
 ghost use Rattle.std.specs.Prelude.{◌≡◌, ◌≤◌, ◌+◌, if◌then◌else◌, [], Some, IfOk, OnOk, length, take, drop};
-ghost use Rattle.base_core.specs.Landing.{written_at};
+ghost use Rattle.base_bytes.specs.Landing.{written_at};
 
 use crate::buffers::{assign, copied, lay, write};
 use crate::replay::Replay;
-use base_core::NoMemory;
+use base_bytes::NoMemory;
 use std::alloc::Global;
 use std::mem;
 

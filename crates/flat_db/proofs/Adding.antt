@@ -4,10 +4,10 @@ use Rattle.std.proofs.lemmas.List.{append-nil}
 use Rattle.std.specs.Option.{option_map}
 use Rattle.std.specs.Prelude.{IsSome}
 use Rattle.std.specs.Result.{IsErr}
-use Rattle.base_core.specs.Causes.{Rose}
-use Rattle.base_core.specs.CrashImages.{DiskState, GoesOn, Fresh, IsMoment}
-use Rattle.base_core.proofs.Moments.{stays_then, stays_same}
-use Rattle.base_core.specs.declared.disk.Failed.{Failed}
+use Rattle.base_devices.specs.Causes.{Rose}
+use Rattle.base_devices.specs.CrashImages.{DiskState, GoesOn, Fresh, IsMoment}
+use Rattle.base_devices.proofs.Moments.{stays_then, stays_same}
+use Rattle.base_devices.specs.declared.disk.Failed.{Failed}
 use Rattle.flat_db.specs.Writing.{with_piece, AddsBytes}
 
 abbrev pub Adds : DiskState → DiskState → List ℕ → List ℕ → List ℕ → Type 0

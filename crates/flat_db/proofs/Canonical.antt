@@ -8,10 +8,10 @@ use Rattle.std.specs.Prelude.{fold}
 use Rattle.std.specs.List.{All}
 use Rattle.std.specs.BTreeMap.{insert_entry, is_at}
 use Rattle.std.specs.Map.{remove_entry}
-use Rattle.base_core.specs.Escapes.{escaped}
-use Rattle.base_core.specs.OrderedMap.{Map, IsBelow, IsOrderedMap, BeginsAbove, key_order, put, without}
-use Rattle.base_core.proofs.EscapeLemmas.{spells_escaped}
-use Rattle.base_core.proofs.OrderedMaps.{EndsBelow, below_then, put_behind, put_ordered, nothing_below}
+use Rattle.base_bytes.specs.Escapes.{escaped}
+use Rattle.base_bytes.specs.OrderedMap.{Map, IsBelow, IsOrderedMap, BeginsAbove, key_order, put, without}
+use Rattle.base_bytes.proofs.EscapeLemmas.{spells_escaped}
+use Rattle.base_bytes.proofs.OrderedMaps.{EndsBelow, below_then, put_behind, put_ordered, nothing_below}
 use Rattle.flat_db.specs.FlatText.{pair_line, canonical_text, HasLine, SaysPair, SaysPairs, put_all, FlatTextOf}
 use Rattle.flat_db.specs.Laws.{TextIsOrdered, CanonicalReadsBack, PutReadsBack}
 use Rattle.flat_db.proofs.FieldLemmas.{free_then, free_one, escaped_free}

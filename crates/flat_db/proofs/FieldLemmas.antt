@@ -1,8 +1,8 @@
 -- A field and the byte that ends it.
 use Rattle.std.proofs.Common.{◌≡◌, ◌≢◌, ◌⊎◌, inl, inr, ⊎_elim, ℕ, zero, suc, ◌<◌, ◌≤◌, Bool, true, false, List, [], ◌∷◌, ◌++◌, length, get_or, take, refl, sym, ◌∙◌, ap, subst, arith}
 use Rattle.std.specs.Prelude.{◌==◌, ◌&&◌, ◌||◌, not, flat_map}
-use Rattle.base_core.specs.Escapes.{escaped_byte, escaped}
-use Rattle.base_core.proofs.EscapeLemmas.{one_or_two, escapes}
+use Rattle.base_bytes.specs.Escapes.{escaped_byte, escaped}
+use Rattle.base_bytes.proofs.EscapeLemmas.{one_or_two, escapes}
 use Rattle.flat_db.specs.FlatText.{IsFree}
 
 both : (a b : Bool) → a ≡ true → b ≡ true → (a && b) ≡ true

@@ -3,7 +3,7 @@ use Rattle.std.proofs.Common.{◌≡◌, ◌≢◌, ◌≤◌, ℕ, List, [], �
 use Rattle.std.specs.Prelude.{OnErr}
 use Rattle.std.specs.List.{All}
 use Rattle.std.proofs.lemmas.List.{take_at, take_all}
-use Rattle.base_core.specs.OrderedMap.{Map, IsOrderedMap}
+use Rattle.base_bytes.specs.OrderedMap.{Map, IsOrderedMap}
 use Rattle.flat_db.specs.FlatText.{canonical_text, SaysPairs, put_all, FlatTextOf}
 use Rattle.flat_db.specs.Entries.{pairs_of, EndsBy}
 use Rattle.flat_db.specs.Kept.{IsKept, SameEntries, map_among}

@@ -8,8 +8,8 @@ use Rattle.std.specs.List.{dedup, dedup_from, filter}
 use Rattle.std.specs.List.Sorted.{ties, IsSortedBy, IsStableBy}
 use Rattle.std.specs.BTreeMap.{is_at}
 use Rattle.std.specs.Cmp.Lexicographic.{nat_list_cmp_total}
-use Rattle.base_core.specs.OrderedMap.{Map, IsBelow, IsOrderedMap, BeginsAbove, key_order, put, value_at}
-use Rattle.base_core.proofs.OrderedMaps.{value_put, is_at_key, above_turned, chosen_twice, no_value_before, same_map, value_first}
+use Rattle.base_bytes.specs.OrderedMap.{Map, IsBelow, IsOrderedMap, BeginsAbove, key_order, put, value_at}
+use Rattle.base_bytes.proofs.OrderedMaps.{value_put, is_at_key, above_turned, chosen_twice, no_value_before, same_map, value_first}
 use Rattle.flat_db.specs.FlatText.{put_all}
 use Rattle.flat_db.specs.Entries.{part_of, pair_of, pairs_of}
 use Rattle.flat_db.specs.declared.entries.Entry.{Entry}

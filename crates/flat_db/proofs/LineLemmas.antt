@@ -4,7 +4,7 @@ use Rattle.std.specs.Prelude.{min}
 use Rattle.std.specs.List.{All}
 use Rattle.std.proofs.lemmas.List.{take-append-drop, drop_more, drop_all, drop-drop, drop_at, take-append-le, drop-append-le, length-drop, length-take-le, drop-take, take-take, append-nil}
 use borrow.Rule.Slice.PartMut.{put_mid, post_of}
-use Rattle.base_core.specs.OrderedMap.{Map}
+use Rattle.base_bytes.specs.OrderedMap.{Map}
 use Rattle.flat_db.specs.FlatText.{IsFree, HasLine, SaysPair, SaysPairs}
 use Rattle.flat_db.specs.Entries.{part_of, pair_of, pairs_of, EndsBy}
 use Rattle.flat_db.specs.declared.entries.Span.{Span}

@@ -1,8 +1,9 @@
 -- What is known of a file once it was opened.
 use Rattle.std.proofs.Common.{◌≡◌, Option, Some, None, Result, ⊎_elim, refl, ◌∙◌}
 use Rattle.std.specs.Prelude.{IsSome}
-use Rattle.base_core.specs.CrashImages.{DiskState, GoesOn, StaysAs}
-use Rattle.base_core.specs.DiskCalls.{DiskCall, Syncs}
+use Rattle.base_devices.specs.CrashImages.{DiskState, GoesOn}
+use Rattle.base_devices.specs.Frames.{StaysAs}
+use Rattle.base_devices.specs.DiskCalls.{DiskCall, Syncs}
 use Rattle.flat_db.specs.Opening.{MayLeaveLess}
 
 pub some_of : {A : Type 0} (o : Option A) → IsSome o → (x : A) × (o ≡ Some x)

@@ -4,9 +4,9 @@ use Rattle.std.proofs.lemmas.List.{get_or_default}
 use Rattle.std.proofs.lemmas.List.Elements.{All-set, All-cons, All-append, All-take, All-drop}
 use Rattle.std.proofs.lemmas.List.Sorted.{All-permutation, IsPermutation-insert}
 use Rattle.std.specs.List.{All, insert, remove}
-use Rattle.base_core.specs.OrderedMap.{Map, IsBelow, IsOrderedMap, put, without}
-use Rattle.base_core.specs.declared.limits.TheConstants.{FLAT_LIMIT}
-use Rattle.base_core.proofs.OrderedMaps.{put_ordered, without_ordered}
+use Rattle.base_bytes.specs.OrderedMap.{Map, IsBelow, IsOrderedMap, put, without}
+use Rattle.base_bytes.specs.declared.limits.TheConstants.{FLAT_LIMIT}
+use Rattle.base_bytes.proofs.OrderedMaps.{put_ordered, without_ordered}
 use Rattle.flat_db.specs.FlatText.{pair_line, canonical_text}
 use Rattle.flat_db.specs.Entries.{EndsBy, part_of, pair_of, pairs_of}
 use Rattle.flat_db.specs.Kept.{IsKept, map_among}

@@ -3,9 +3,9 @@ use Rattle.std.proofs.lemmas.List.{append-nil, length-take-le, take_all}
 use Rattle.std.proofs.Common.{◌≡◌, ◌≢◌, ◌⊎◌, inl, inr, ⊎_elim, ℕ, ◌+◌, ◌≤◌, Bool, true, false, List, [], ◌++◌, Option, Some, None, length, take, refl, sym, ◌∙◌, ap, subst, arith, length-append}
 use Rattle.std.specs.Prelude.{◌<◌, ◌==◌, nat_lt, slice_get, is_some, if◌then◌else◌}
 use Rattle.std.specs.List.{All}
-use Rattle.base_core.specs.CrashImages.{Image, DiskState}
-use Rattle.base_core.specs.OrderedMap.{Map, IsOrderedMap, put, value_at, without}
-use Rattle.base_core.specs.declared.limits.TheConstants.{FLAT_LIMIT, KEY_LIMIT, VALUE_LIMIT}
+use Rattle.base_devices.specs.CrashImages.{Image, DiskState}
+use Rattle.base_bytes.specs.OrderedMap.{Map, IsOrderedMap, put, value_at, without}
+use Rattle.base_bytes.specs.declared.limits.TheConstants.{FLAT_LIMIT, KEY_LIMIT, VALUE_LIMIT}
 use Rattle.db_core.specs.Answers.{OnDisk, broken_refusal, pair_refusal, size_refusal, store_refusal, delete_refusal}
 use Rattle.db_core.specs.Sessions.{DbState, stored, deleted, aborted, first_from, first_above}
 use Rattle.db_core.specs.declared.fault.DbFault.{DbFault}
@@ -24,7 +24,7 @@ use Rattle.flat_db.specs.declared.pairs.Pairs.{Pairs}
 use Rattle.flat_db.specs.declared.session.Stage.{Stage}
 use Rattle.flat_db.specs.declared.session.Stage.TheVariants.{Resting, Open, Broken}
 use Rattle.flat_db.specs.declared.session.Transaction.{Transaction}
-use Rattle.base_core.proofs.OrderedMaps.{without_absent}
+use Rattle.base_bytes.proofs.OrderedMaps.{without_absent}
 use Rattle.flat_db.proofs.KeptLemmas.{grown_map, grown_kept}
 
 -- ---- the tie

@@ -6,10 +6,10 @@ use Rattle.std.specs.declared.cmp.Ordering.TheVariants.{Less, Equal, Greater}
 use Rattle.std.specs.Ordering.{match_ordering}
 use Rattle.std.specs.Prelude.{fold}
 use Rattle.std.specs.BTreeMap.{insert_entry}
-use Rattle.base_core.specs.Escapes.{escaped_byte, escaped, Spells}
-use Rattle.base_core.specs.OrderedMap.{Map, key_order, put, without}
-use Rattle.base_core.proofs.EscapeLemmas.{escaped_bound, byte_cases}
-use Rattle.base_core.proofs.OrderedMaps.{same_key}
+use Rattle.base_bytes.specs.Escapes.{escaped_byte, escaped, Spells}
+use Rattle.base_bytes.specs.OrderedMap.{Map, key_order, put, without}
+use Rattle.base_bytes.proofs.EscapeLemmas.{escaped_bound, byte_cases}
+use Rattle.base_bytes.proofs.OrderedMaps.{same_key}
 use Rattle.flat_db.specs.FlatText.{pair_line, canonical_text, SaysPair, SaysPairs, FlatTextOf}
 use Rattle.flat_db.specs.Entries.{part_of, pair_of, pairs_of}
 use Rattle.flat_db.specs.declared.entries.Entry.{Entry}

@@ -1,10 +1,10 @@
 -- A text has one reading, or its first flaw at one place.
 use Rattle.std.proofs.Common.{◌≡◌, ◌≢◌, ◌⊎◌, inl, inr, ⊎_elim, ℕ, zero, suc, ◌+◌, ◌-◌, ◌≤◌, List, [], ◌∷◌, ◌++◌, Option, Some, None, length, refl, sym, ◌∙◌, ap, subst, arith, length-append}
-use Rattle.base_core.specs.Escapes.{Spells}
-use Rattle.base_core.specs.declared.flaw.Damage.{Damage}
-use Rattle.base_core.specs.declared.flaw.Flaw.{Flaw}
-use Rattle.base_core.specs.declared.flaw.Flaw.TheVariants.{NoTab, BadEscape, EmptyKey}
-use Rattle.base_core.proofs.EscapeLaws.{fields_read_back}
+use Rattle.base_bytes.specs.Escapes.{Spells}
+use Rattle.base_bytes.specs.declared.flaw.Damage.{Damage}
+use Rattle.base_bytes.specs.declared.flaw.Flaw.{Flaw}
+use Rattle.base_bytes.specs.declared.flaw.Flaw.TheVariants.{NoTab, BadEscape, EmptyKey}
+use Rattle.base_bytes.proofs.EscapeLaws.{fields_read_back}
 use Rattle.flat_db.specs.FlatText.{IsFree, HasLine, HasFields, SaysPair, SaysPairs, put_all, IsBadInFields, IsLineFlaw, without_tab, with_bad_escape, with_empty_key, IsFlawedAt, FirstFlatFlaw}
 use Rattle.flat_db.specs.Laws.{TextIsOneMap, FirstFlawIsOne, FirstFlawExists, FlawlessOpens}
 use Rattle.flat_db.proofs.FieldLemmas.{split_unique, free_none, Split, split_or_free}

@@ -1,6 +1,6 @@
 -- How a map lies in memory: some bytes, and for each pair where its key and its value stand among them.
 use Rattle.std.specs.Prelude.{ℕ, ◌+◌, ◌≤◌, List, map, take, drop}
-use Rattle.base_core.specs.OrderedMap.{Map}
+use Rattle.base_bytes.specs.OrderedMap.{Map}
 use Rattle.flat_db.specs.declared.entries.Span.{Span}
 use Rattle.flat_db.specs.declared.entries.Entry.{Entry}
 

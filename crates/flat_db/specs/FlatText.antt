@@ -1,11 +1,11 @@
 -- Flat text: a line for each pair of a map.
 use Rattle.std.specs.Prelude.{◌≡◌, ◌≢◌, ◌⊎◌, ℕ, ◌+◌, not, ◌==◌, List, [], ◌∷◌, ◌++◌, length, fold, Option, Some, None, IsTrue}
 use Rattle.std.specs.List.{list_all}
-use Rattle.base_core.specs.Escapes.{escaped, Spells, IsBadEscape}
-use Rattle.base_core.specs.OrderedMap.{Map, put}
-use Rattle.base_core.specs.declared.flaw.Damage.{Damage}
-use Rattle.base_core.specs.declared.flaw.Flaw.{Flaw}
-use Rattle.base_core.specs.declared.flaw.Flaw.TheVariants.{NoTab, BadEscape, EmptyKey}
+use Rattle.base_bytes.specs.Escapes.{escaped, Spells, IsBadEscape}
+use Rattle.base_bytes.specs.OrderedMap.{Map, put}
+use Rattle.base_bytes.specs.declared.flaw.Damage.{Damage}
+use Rattle.base_bytes.specs.declared.flaw.Flaw.{Flaw}
+use Rattle.base_bytes.specs.declared.flaw.Flaw.TheVariants.{NoTab, BadEscape, EmptyKey}
 
 -- ---- what is written
 

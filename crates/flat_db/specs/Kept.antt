@@ -1,7 +1,7 @@
 -- What holds of a map that is kept in memory.
 use Rattle.std.specs.Prelude.{◌≡◌, ◌≢◌, ℕ, ◌≤◌, ◌^◌, List, [], length}
 use Rattle.std.specs.List.{All}
-use Rattle.base_core.specs.OrderedMap.{Map, IsOrderedMap}
+use Rattle.base_bytes.specs.OrderedMap.{Map, IsOrderedMap}
 use Rattle.flat_db.specs.FlatText.{canonical_text}
 use Rattle.flat_db.specs.Entries.{EndsBy, pairs_of}
 use Rattle.flat_db.specs.declared.pairs.Pairs.{Pairs}

@@ -1,8 +1,8 @@
 -- What holds of every text.
 use Rattle.std.specs.Prelude.{◌≡◌, ◌≢◌, ◌↔◌, ℕ, List, [], Option, None}
 use Rattle.std.specs.List.{All}
-use Rattle.base_core.specs.OrderedMap.{Map, IsOrderedMap, IsBelow, put}
-use Rattle.base_core.specs.declared.flaw.Damage.{Damage}
+use Rattle.base_bytes.specs.OrderedMap.{Map, IsOrderedMap, IsBelow, put}
+use Rattle.base_bytes.specs.declared.flaw.Damage.{Damage}
 use Rattle.flat_db.specs.FlatText.{FlatTextOf, FirstFlatFlaw, canonical_text}
 
 -- a text is that of one map

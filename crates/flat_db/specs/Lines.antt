@@ -1,7 +1,7 @@
 -- How a text is read, line by line.
 use Rattle.std.specs.Prelude.{◌≡◌, ℕ, ◌+◌, ◌<◌, List, take, drop, length}
-use Rattle.base_core.specs.Escapes.{Spells}
-use Rattle.base_core.specs.declared.flaw.Damage.{Damage}
+use Rattle.base_bytes.specs.Escapes.{Spells}
+use Rattle.base_bytes.specs.declared.flaw.Damage.{Damage}
 use Rattle.flat_db.specs.FlatText.{HasFields, HasLine, IsLineFlaw}
 
 -- The line says a pair, and the field of its key ends here.

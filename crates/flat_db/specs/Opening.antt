@@ -1,8 +1,8 @@
 -- What a flat file opens to, why it may not, and what opening does to its disk.
 use Rattle.std.specs.Prelude.{◌≡◌}
-use Rattle.base_core.specs.CrashImages.{Image, DiskState, LeavesOnly}
-use Rattle.base_core.specs.OrderedMap.{Map}
-use Rattle.base_core.specs.declared.limits.TheConstants.{FLAT_LIMIT}
+use Rattle.base_devices.specs.CrashImages.{Image, DiskState, LeavesOnly}
+use Rattle.base_bytes.specs.OrderedMap.{Map}
+use Rattle.base_bytes.specs.declared.limits.TheConstants.{FLAT_LIMIT}
 use Rattle.db_core.specs.Opening.{Holds, IsOpenRefusal}
 use Rattle.db_core.specs.declared.fault.OpenFault.{OpenFault}
 use Rattle.flat_db.specs.FlatText.{FlatTextOf, IsFlawedAt}

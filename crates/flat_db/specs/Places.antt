@@ -1,7 +1,7 @@
 -- Where a key stands, or would stand, among the pairs of a map.
 use Rattle.std.specs.Prelude.{◌≡◌, ℕ, ◌+◌, ◌≤◌, List, ◌∷◌, take, drop, length}
 use Rattle.std.specs.List.{All}
-use Rattle.base_core.specs.OrderedMap.{Map, IsBelow, BeginsAbove}
+use Rattle.base_bytes.specs.OrderedMap.{Map, IsBelow, BeginsAbove}
 
 -- those before the place have lower keys, and those behind it do not
 pub record IsPlaceOf (key : List ℕ) (m : Map) (place : ℕ) : Type 0 where

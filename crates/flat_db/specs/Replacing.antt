@@ -1,6 +1,6 @@
 -- The main file is replaced by a whole new text.
 use Rattle.std.specs.Prelude.{◌≡◌, ◌⊎◌, ℕ, List, Some, Result, OnOk, IsSome}
-use Rattle.base_core.specs.CrashImages.{DiskState, LeavesOnly, IsDurable}
+use Rattle.base_devices.specs.CrashImages.{DiskState, LeavesOnly, IsDurable}
 
 -- after Ok the file reads this text, and a crash leaves nothing else
 pub record Replaces {T E : Type 0} (text : List ℕ) (old new : DiskState) (result : Result T E) : Type 0 where

@@ -2,10 +2,10 @@
 use Rattle.std.proofs.Common.{refl}
 use Rattle.std.specs.Prelude.{◌≡◌, ℕ, ◌≤◌, Bool, true, false, List, [], length}
 use Rattle.std.specs.List.{All}
-use Rattle.base_core.specs.CrashImages.{Image, DiskState}
-use Rattle.base_core.specs.OrderedMap.{Map}
-use Rattle.base_core.specs.Transactions.{after_change}
-use Rattle.base_core.specs.declared.limits.TheConstants.{FLAT_LIMIT}
+use Rattle.base_devices.specs.CrashImages.{Image, DiskState}
+use Rattle.base_bytes.specs.OrderedMap.{Map}
+use Rattle.base_bytes.specs.Transactions.{after_change}
+use Rattle.base_bytes.specs.declared.limits.TheConstants.{FLAT_LIMIT}
 use Rattle.db_core.specs.Sessions.{DbKind, DbState, aborted}
 use Rattle.db_core.specs.WholeTransactions.{plain}
 use Rattle.flat_db.specs.FlatText.{canonical_text}

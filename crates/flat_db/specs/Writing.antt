@@ -1,9 +1,10 @@
 -- A new file is written in pieces: the bytes that are gathered go behind those that are in it.
 use Rattle.std.specs.Option.{option_map}
 use Rattle.std.specs.Prelude.{◌≡◌, List, ℕ, ◌++◌, Option, Result, OnOk, is_some}
-use Rattle.base_core.specs.Causes.{HasCause}
-use Rattle.base_core.specs.CrashImages.{DiskState, Fresh, StaysAs}
-use Rattle.base_core.specs.DiskCalls.{fresh_bytes}
+use Rattle.base_devices.specs.Causes.{HasCause}
+use Rattle.base_devices.specs.CrashImages.{DiskState, Fresh}
+use Rattle.base_devices.specs.Frames.{StaysAs}
+use Rattle.base_devices.specs.DiskCalls.{fresh_bytes}
 
 -- the new file with what is gathered for it
 abbrev pub with_piece : Option Fresh → List ℕ → Option (List ℕ)

@@ -1,13 +1,13 @@
 // The map of a text, in memory.
 ghost use Rattle.std.specs.Prelude.{◌≡◌, IfOk, IfErr, length};
 ghost use Rattle.std.specs.Option.{option_copied};
-ghost use Rattle.base_core.specs.OrderedMap.{value_at};
+ghost use Rattle.base_bytes.specs.OrderedMap.{value_at};
 ghost use Rattle.flat_db.specs.FlatText.{FlatTextOf};
 ghost use Rattle.flat_db.specs.Reading.{IsFlatFault};
 
 use crate::pairs::Pairs;
 use crate::reading::{in_order, read_lines, text_size};
-use base_core::Flaw;
+use base_bytes::Flaw;
 use memchr::memchr_iter;
 use std::alloc::Global;
 use std::marker::Model;
@@ -32,7 +32,7 @@ pub struct FlatMap {
 }
 
 impl Model for FlatMap {
-    ghost use Rattle.base_core.specs.OrderedMap.{Map};
+    ghost use Rattle.base_bytes.specs.OrderedMap.{Map};
 
     ghost Value = { Map };
 

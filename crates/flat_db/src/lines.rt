@@ -5,7 +5,7 @@ ghost use Rattle.flat_db.specs.Lines.{HasTab, IsFlawedLine};
 ghost use Rattle.flat_db.specs.Entries.{EndsBy, pair_of};
 
 use crate::entries::{Entry, Span};
-use base_core::{Damage, Flaw, bad_escape, unescape};
+use base_bytes::{Damage, Flaw, bad_escape, unescape};
 use memchr::memchr;
 
 const TAB: u8 = 9;

@@ -1,15 +1,17 @@
 // A flat file is opened, or looked through.
 ghost use Rattle.std.specs.Prelude.{◌≡◌, ◌≤◌, Some, IsSome, IfOk, IfErr, OnOk, length};
-ghost use Rattle.base_core.specs.CrashImages.{Image, StaysAs};
-ghost use Rattle.base_core.specs.DiskCalls.{HasLength};
-ghost use Rattle.base_core.specs.OrderedMap.{IsOrderedMap, Map};
+ghost use Rattle.base_devices.specs.CrashImages.{Image};
+ghost use Rattle.base_devices.specs.Frames.{StaysAs};
+ghost use Rattle.base_devices.specs.DiskCalls.{HasLength};
+ghost use Rattle.base_bytes.specs.OrderedMap.{IsOrderedMap, Map};
 ghost use Rattle.db_core.specs.Opening.{HasOpenCause};
 ghost use Rattle.flat_db.specs.Opening.{flat_opens, IsRefused, MayLeaveLess};
 ghost use Rattle.flat_db.specs.Sessions.{FlatTied, at_rest, flat_state};
 
 use crate::flat_map::{FlatFault, FlatMap, map_of};
 use crate::session::FlatDb;
-use base_core::{Damage, Disk, FLAT_LIMIT, ReadFault, read_whole};
+use base_bytes::{Damage, FLAT_LIMIT};
+use base_devices::{Disk, ReadFault, read_whole};
 use db_core::OpenFault;
 use std::alloc::Global;
 

@@ -1,7 +1,7 @@
 // The pairs of a map, by where their keys and values stand among some bytes.
 ghost use Rattle.std.specs.Prelude.{◌≡◌, ◌<◌, ◌≤◌, ◌++◌, [], ℕ, List, IfOk, IfErr, OnErr, OnOk, length, slice_get};
 ghost use Rattle.std.specs.Option.{option_copied};
-ghost use Rattle.base_core.specs.OrderedMap.{IsBelow, put, value_at, without};
+ghost use Rattle.base_bytes.specs.OrderedMap.{IsBelow, put, value_at, without};
 ghost use Rattle.db_core.specs.Answers.{pair_of as pair_lent};
 ghost use Rattle.flat_db.specs.FlatText.{canonical_text};
 ghost use Rattle.flat_db.specs.Entries.{EndsBy, pair_of};
@@ -11,7 +11,7 @@ ghost use Rattle.flat_db.specs.Places.{HasKeyAt, LacksKeyAt};
 use crate::entries::{Entry, Span, part};
 use crate::places::place_among;
 use crate::reading::line_size;
-use base_core::{FLAT_LIMIT, KEY_LIMIT, NoMemory, Pair, VALUE_LIMIT, escaped_size};
+use base_bytes::{FLAT_LIMIT, KEY_LIMIT, NoMemory, Pair, VALUE_LIMIT, escaped_size};
 use std::alloc::Global;
 
 /// Their entries, by rising key, and the size of the map's canonical text in bytes, which is not counted anew.

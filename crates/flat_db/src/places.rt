@@ -1,11 +1,11 @@
 // Where a key stands among the entries of a map, or would stand.
 ghost use Rattle.std.specs.Prelude.{◌≡◌, ◌<◌, ◌≤◌, IfOk, IfErr, length};
-ghost use Rattle.base_core.specs.OrderedMap.{IsOrderedMap};
+ghost use Rattle.base_bytes.specs.OrderedMap.{IsOrderedMap};
 ghost use Rattle.flat_db.specs.Entries.{pairs_of};
 ghost use Rattle.flat_db.specs.Places.{IsPlaceOf, HasKeyAt, LacksKeyAt};
 
 use crate::entries::{Entry, part};
-use base_core::compare_keys;
+use base_bytes::compare_keys;
 
 // How many entries have a lower key.
 fn lower_keys(bytes: &[u8], entries: &[Entry], key: &[u8]) -> usize

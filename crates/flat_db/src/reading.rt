@@ -1,8 +1,8 @@
 // A text is read into a map.
 ghost use Rattle.std.specs.Prelude.{◌≡◌, ◌<◌, ◌≤◌, ◌+◌, ◌*◌, ◌^◌, [], true, ℕ, List, OnOk, IfOk, IfErr, length, take};
 ghost use Rattle.std.specs.List.{All};
-ghost use Rattle.base_core.specs.Escapes.{escaped};
-ghost use Rattle.base_core.specs.OrderedMap.{IsOrderedMap};
+ghost use Rattle.base_bytes.specs.Escapes.{escaped};
+ghost use Rattle.base_bytes.specs.OrderedMap.{IsOrderedMap};
 ghost use Rattle.flat_db.specs.FlatText.{FlatTextOf, SaysPairs, put_all, canonical_text, pair_line};
 ghost use Rattle.flat_db.specs.Entries.{EndsBy, part_of, pairs_of};
 ghost use Rattle.flat_db.specs.Reading.{IsFlatFault};
@@ -10,7 +10,7 @@ ghost use Rattle.flat_db.specs.Reading.{IsFlatFault};
 use crate::FlatFault;
 use crate::entries::{Entry, part};
 use crate::lines::line_at;
-use base_core::{Damage, compare_keys, escaped_size};
+use base_bytes::{Damage, compare_keys, escaped_size};
 use std::alloc::AllocError;
 
 // Reads all lines of a text: an entry for each, in their order.

@@ -1,15 +1,17 @@
 // The main file is replaced: a whole new text is written beside it, synced, and put in its place.
 ghost use Rattle.std.specs.Prelude.{◌≡◌, ◌⊎◌, [], Some, IsSome, OnOk};
-ghost use Rattle.base_core.specs.Causes.{HasCause};
-ghost use Rattle.base_core.specs.CrashImages.{IsDurable, LeavesOnly, StaysAs};
-ghost use Rattle.base_core.specs.DiskCalls.{fresh_bytes};
+ghost use Rattle.base_devices.specs.Causes.{HasCause};
+ghost use Rattle.base_devices.specs.CrashImages.{IsDurable, LeavesOnly};
+ghost use Rattle.base_devices.specs.Frames.{StaysAs};
+ghost use Rattle.base_devices.specs.DiskCalls.{fresh_bytes};
 ghost use Rattle.flat_db.specs.FlatText.{canonical_text};
 ghost use Rattle.flat_db.specs.Kept.{map_among};
 ghost use Rattle.flat_db.specs.Replacing.{Replaces, MayReplace};
 
 use crate::pairs::Pairs;
 use crate::writing::{flush, write_pairs};
-use base_core::{Disk, Failed, Piece};
+use base_bytes::Piece;
+use base_devices::{Disk, Failed};
 
 // Writes the new file: the canonical text of a map.
 fn write_new<D: Disk>(

@@ -1,6 +1,6 @@
 // A session over a flat file, whose text is rewritten whole by each transaction that changed something.
 ghost use Rattle.std.specs.Prelude.{◌≡◌, ◌⊎◌, [], true, false, Some, IsSome, IsErrOf, IfOk, IfErr, OnOk};
-ghost use Rattle.base_core.specs.OrderedMap.{IsOrderedMap};
+ghost use Rattle.base_bytes.specs.OrderedMap.{IsOrderedMap};
 ghost use Rattle.db_core.specs.Answers.{Answers, HasDbCause, IsDiskFault, OnDisk, broken_refusal};
 ghost use Rattle.db_core.specs.Sessions.{committed};
 ghost use Rattle.db_core.specs.declared.fault.DbFault.TheVariants.{NoMemory as MemoryRanOut};
@@ -12,7 +12,8 @@ ghost use Rattle.flat_db.specs.Sessions.{FlatTied, at_rest, changed, flat_kind, 
 use crate::flat_map::FlatMap;
 use crate::pairs::Pairs;
 use crate::replacing::replace;
-use base_core::{Disk, FLAT_LIMIT, NoMemory, Pair, Piece};
+use base_bytes::{FLAT_LIMIT, NoMemory, Pair, Piece};
+use base_devices::Disk;
 use db_core::{Db, DbFault, pair_fault};
 use std::alloc::Global;
 use std::marker::Model;

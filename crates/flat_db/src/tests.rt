@@ -1,6 +1,6 @@
 // Texts and the maps that they say.
 use crate::{FlatFault, FlatMap, read_flat};
-use base_core::{FLAT_LIMIT, Flaw};
+use base_bytes::{FLAT_LIMIT, Flaw};
 use db_core::pair_fault;
 use std::alloc::Global;
 use std::process::Abort;

@@ -1,13 +1,14 @@
 // A map is written as its canonical text, in pieces, into the new file of a disk.
 ghost use Rattle.std.specs.Prelude.{◌≡◌, ◌<◌, ◌≤◌, ◌+◌, ◌-◌, ◌∷◌, ◌++◌, [], IsSome, OnOk, length};
-ghost use Rattle.base_core.specs.Escapes.{escaped};
+ghost use Rattle.base_bytes.specs.Escapes.{escaped};
 ghost use Rattle.flat_db.specs.FlatText.{canonical_text, pair_line};
 ghost use Rattle.flat_db.specs.Entries.{part_of, pairs_of};
-ghost use Rattle.base_core.specs.declared.limits.TheConstants.{PIECE_SIZE};
+ghost use Rattle.base_bytes.specs.declared.limits.TheConstants.{PIECE_SIZE};
 ghost use Rattle.flat_db.specs.Writing.{AddsBytes};
 
 use crate::entries::{Entry, part};
-use base_core::{Disk, Failed, Piece};
+use base_bytes::Piece;
+use base_devices::{Disk, Failed};
 
 // Writes what is gathered.
 pub(crate) fn flush<D: Disk>(disk: &mut D, piece: &mut Piece) -> Result<(), Failed>

@@ -10,9 +10,9 @@ use Rattle.index_form.specs.declared.fault.IndexFault.TheVariants.{Short, Check,
 use Rattle.index_form.specs.declared.header.IndexHeader.{IndexHeader}
 use Rattle.index_form.specs.Reading.{header_in, ends_with_check, first_fault}
 use Rattle.index_form.specs.Spelling.{IsHeader, header_fields, header_front, header_bytes, version, bytes_of_record}
-use Rattle.base_core.specs.Fields.{part, u32_in, AreBytes}
+use Rattle.base_bytes.specs.Fields.{part, u32_in, AreBytes}
 use Rattle.check_word.proofs.Bound.{check_word-lt}
-use Rattle.base_core.proofs.Parts.{to_be_bytes-u32_in, to_be_bytes-u64_in, u32_in-lt, u64_in-lt}
+use Rattle.base_bytes.proofs.Parts.{to_be_bytes-u32_in, to_be_bytes-u64_in, u32_in-lt, u64_in-lt}
 use Rattle.index_form.proofs.Joined.{parts, total, sizes_of, concat-parts, sizes_of-parts, length-concat, concat-same, Small, AreBytes-Small, Small-concat, small_4, small_8, u32_again, u64_again, fits_place, check_is_spelled, spelled_is_checked}
 
 -- ---- what is read is spelled so

@@ -10,11 +10,11 @@ use Rattle.check_word.specs.CheckWord.{check_word}
 use Rattle.index_form.specs.declared.fault.IndexFault.{IndexFault}
 use Rattle.index_form.specs.declared.header.IndexHeader.{IndexHeader}
 use Rattle.index_form.specs.declared.record.IndexRecord.{IndexRecord}
-use Rattle.base_core.specs.Fields.{part, AreBytes}
+use Rattle.base_bytes.specs.Fields.{part, AreBytes}
 use Rattle.index_form.specs.Reading.{as_written, StoredRecord, stored_record, stored_records, records_of, header_in, first_fault, index_read}
 use Rattle.index_form.specs.Spelling.{IsHeader, IsRecord, IsIndex, header_front, header_bytes, record_front, record_bytes, index_bytes}
 use Rattle.index_form.specs.Laws.{WrittenIsRead, ReadIsWritten}
-use Rattle.base_core.proofs.Parts.{AreBytes-part}
+use Rattle.base_bytes.proofs.Parts.{AreBytes-part}
 use Rattle.index_form.proofs.Joined.{AreBytes-drop, AreBytes-Small, whole_part}
 use Rattle.index_form.proofs.HeaderLemmas.{length-header_front, header_bytes-header_in, first_fault-header_bytes, Passes-none}
 use Rattle.index_form.proofs.RecordLemmas.{length-record_front, IsRecord-record_in, record_bytes-record_in, stored_record-record_bytes}

@@ -5,9 +5,9 @@ use Rattle.std.specs.Int.{w32, w64, to_be_bytes}
 use Rattle.std.proofs.lemmas.List.{append-nil, length-append, take_all, get_or-drop}
 use Rattle.std.proofs.lemmas.Nat.{from_be_bytes-to_be_bytes_4, from_be_bytes-to_be_bytes_8}
 use Rattle.check_word.specs.CheckWord.{check_word}
-use Rattle.base_core.specs.Fields.{part, u32_in, u64_in, AreBytes}
+use Rattle.base_bytes.specs.Fields.{part, u32_in, u64_in, AreBytes}
 use Rattle.index_form.specs.Spelling.{FitsPlace}
-use Rattle.base_core.proofs.Parts.{AreBytes-part, part-zero, part-add, length-part, to_be_bytes-u32_in, append_parts}
+use Rattle.base_bytes.proofs.Parts.{AreBytes-part, part-zero, part-add, length-part, to_be_bytes-u32_in, append_parts}
 
 -- ---- parts of a file, of these sizes
 

@@ -8,9 +8,9 @@ use Rattle.check_word.specs.CheckWord.{check_word}
 use Rattle.index_form.specs.declared.record.IndexRecord.{IndexRecord}
 use Rattle.index_form.specs.Reading.{record_in, ends_with_check, stored_record, StoredRecord}
 use Rattle.index_form.specs.Spelling.{IsRecord, record_fields, record_front, record_bytes}
-use Rattle.base_core.specs.Fields.{part, AreBytes}
+use Rattle.base_bytes.specs.Fields.{part, AreBytes}
 use Rattle.check_word.proofs.Bound.{check_word-lt}
-use Rattle.base_core.proofs.Parts.{to_be_bytes-u32_in, to_be_bytes-u64_in, u32_in-lt, u64_in-lt}
+use Rattle.base_bytes.proofs.Parts.{to_be_bytes-u32_in, to_be_bytes-u64_in, u32_in-lt, u64_in-lt}
 use Rattle.index_form.proofs.Joined.{parts, total, sizes_of, concat-parts, sizes_of-parts, length-concat, concat-same, Small, AreBytes-Small, Small-concat, small_4, small_8, u32_again, u64_again, fits_place, whole_part, check_is_spelled, spelled_is_checked}
 
 -- ---- what is read is spelled so

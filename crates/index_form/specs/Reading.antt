@@ -5,7 +5,7 @@ use Rattle.index_form.specs.declared.fault.IndexFault.{IndexFault}
 use Rattle.index_form.specs.declared.fault.IndexFault.TheVariants.{Short, Check, MinorVersion, RecordSize, StartOffset, Count}
 use Rattle.index_form.specs.declared.header.IndexHeader.{IndexHeader}
 use Rattle.index_form.specs.declared.record.IndexRecord.{IndexRecord}
-use Rattle.base_core.specs.Fields.{part, u32_in, u64_in}
+use Rattle.base_bytes.specs.Fields.{part, u32_in, u64_in}
 use Rattle.index_form.specs.Spelling.{version, bytes_of_record}
 
 -- the fields that stand in the first 128 bytes of a file

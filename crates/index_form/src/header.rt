@@ -5,7 +5,7 @@ ghost use Rattle.index_form.specs.Spelling.{header_bytes};
 
 use crate::fields::put;
 use crate::sizes::HEADER_SIZE;
-use base_core::{part_at, u32_at, u64_at};
+use base_bytes::{part_at, u32_at, u64_at};
 use check_word::check;
 
 /// What the first 128 bytes of an index say, all but their check word.

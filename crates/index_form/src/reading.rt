@@ -9,7 +9,7 @@ use crate::fault::IndexFault;
 use crate::header::IndexHeader;
 use crate::sizes::{HEADER_SIZE, MINOR_VERSION, RECORD_SIZE};
 use crate::view::IndexView;
-use base_core::{part_at, u32_at};
+use base_bytes::{part_at, u32_at};
 use check_word::check;
 
 /// The header's check word is that of its first 124 bytes.

@@ -5,7 +5,7 @@ ghost use Rattle.index_form.specs.Spelling.{bytes_of_record, record_bytes, recor
 
 use crate::fields::put;
 use crate::sizes::{LAST_FIELDS, RECORD_SIZE};
-use base_core::{part_at, u32_at, u64_at};
+use base_bytes::{part_at, u32_at, u64_at};
 use check_word::check;
 
 /// What an index says of one message, all but the record's check word.

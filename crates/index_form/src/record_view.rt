@@ -5,7 +5,7 @@ ghost use Rattle.index_form.specs.Spelling.{bytes_of_record, record_bytes, recor
 
 use crate::record::{IndexRecord, is_record_checked, record_at};
 use crate::sizes::LAST_FIELDS;
-use base_core::{part_at, u32_at, u64_at};
+use base_bytes::{part_at, u32_at, u64_at};
 
 /// One record of an index, in the file's own bytes.
 #[derive(Clone, Copy, Debug)]

@@ -1,13 +1,13 @@
 // An index, read in place.
 ghost use Rattle.std.specs.Prelude.{◌≡◌, ◌≤◌, ◌+◌, ◌*◌, ◌<◌, length, Some, None, slice_get};
-ghost use Rattle.base_core.specs.Fields.{part};
+ghost use Rattle.base_bytes.specs.Fields.{part};
 ghost use Rattle.index_form.specs.Reading.{first_fault, header_in, stored_record, records_of};
 ghost use Rattle.index_form.specs.Spelling.{bytes_of_record};
 
 use crate::header::{IndexHeader, header_at};
 use crate::record_view::RecordView;
 use crate::sizes::{HEADER_SIZE, RECORD_SIZE};
-use base_core::{part_at, u32_at};
+use base_bytes::{part_at, u32_at};
 
 /// An index without a fault, in the file's own bytes.
 #[derive(Clone, Copy, Debug)]

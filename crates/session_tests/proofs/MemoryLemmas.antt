@@ -1,9 +1,9 @@
 -- What the calls of a session in memory make of its state.
 use Rattle.std.proofs.Common.{◌≡◌, ℕ, ◌+◌, None, Bool, true, false, List, ap, sym}
 use Rattle.std.specs.Prelude.{◌&&◌, is_some, if◌then◌else◌}
-use Rattle.base_core.specs.OrderedMap.{Map, put, without, value_at}
+use Rattle.base_bytes.specs.OrderedMap.{Map, put, without, value_at}
 use Rattle.db_core.specs.Sessions.{DbKind, DbState, begun, stored, deleted}
-use Rattle.db_core.specs.declared.change.Change.TheVariants.{Put, Del}
+use Rattle.base_bytes.specs.declared.change.Change.TheVariants.{Put, Del}
 use Rattle.session_tests.specs.MemorySessions.{counting_kind, memory_state}
 use Rattle.db_core.specs.Answers.{size_refusal, delete_refusal}
 

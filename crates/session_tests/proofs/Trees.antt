@@ -10,7 +10,7 @@ use Rattle.std.specs.Ordering.{is_eq, match_ordering}
 use Rattle.std.specs.List.{AllZip}
 use Rattle.std.specs.Map.{remove_entry, lookup}
 use Rattle.std.specs.BTreeMap.{insert_entry, is_at}
-use Rattle.base_core.specs.OrderedMap.{Map, key_order, put, without, value_at}
+use Rattle.base_bytes.specs.OrderedMap.{Map, key_order, put, without, value_at}
 
 abbrev V : Type 0
 V = Vec ℕ Global

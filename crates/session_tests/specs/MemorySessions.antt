@@ -1,7 +1,7 @@
 -- A session that keeps its maps in memory, by its parts.
 use Rattle.std.proofs.Common.{◌≡◌, ℕ, Bool, true, false, refl}
 use Rattle.std.specs.Prelude.{◌+◌, ◌&&◌, if◌then◌else◌}
-use Rattle.base_core.specs.OrderedMap.{Map}
+use Rattle.base_bytes.specs.OrderedMap.{Map}
 use Rattle.db_core.specs.Sessions.{DbKind, DbState, aborted}
 
 -- A kind whose files stand for every map, and have a byte for each change that was made.

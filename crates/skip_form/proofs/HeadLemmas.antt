@@ -3,18 +3,18 @@ use Rattle.std.proofs.Common.{◌≡◌, ℕ, ◌+◌, ◌^◌, ◌<◌, ◌≤�
 use Rattle.std.specs.Int.{w16, w32, to_be_bytes, from_be_bytes}
 use Rattle.std.proofs.lemmas.Bool.{ltb-false, le-ltb, eqb-true, eqb-false, leb-true, le-leb}
 use Rattle.std.proofs.lemmas.Nat.{from_be_bytes-to_be_bytes_2, from_be_bytes-to_be_bytes_4}
-use Rattle.base_core.specs.declared.flaw.Flaw.{Flaw}
-use Rattle.base_core.specs.declared.flaw.Flaw.TheVariants.{Short, Level, Extended, Kind}
+use Rattle.base_bytes.specs.declared.flaw.Flaw.{Flaw}
+use Rattle.base_bytes.specs.declared.flaw.Flaw.TheVariants.{Short, Level, Extended, Kind}
 use Rattle.skip_form.specs.declared.head.Head.{Head}
 use Rattle.skip_form.specs.declared.head.Kind as kinds
 use Rattle.skip_form.specs.declared.head.Kind.TheVariants.{Dummy, Put, Gone, Commit}
 use Rattle.skip_form.specs.declared.opening.Opening.{Opening}
-use Rattle.base_core.specs.Fields.{part, u32_in, AreBytes}
+use Rattle.base_bytes.specs.Fields.{part, u32_in, AreBytes}
 use Rattle.skip_form.specs.Fields.{u16_in}
 use Rattle.skip_form.specs.Sizes.{record_size}
 use Rattle.skip_form.specs.Spelling.{StandsAt, IsLevelOf, AreLengthsOf, opening_bytes, type_byte}
 use Rattle.skip_form.specs.Flaws.{opening_in, is_kind_at, is_level, is_extended, head_flaw, head_in, kind_of}
-use Rattle.base_core.proofs.Parts.{part-2, part-4, part-8, part-add, to_be_bytes-u32_in, u32_in-lt}
+use Rattle.base_bytes.proofs.Parts.{part-2, part-4, part-8, part-add, to_be_bytes-u32_in, u32_in-lt}
 use Rattle.skip_form.proofs.Parts.{to_be_bytes-u16_in, u16_in-lt}
 use Rattle.skip_form.proofs.TestLemmas.{passed, not_false}
 

@@ -8,13 +8,13 @@ use Rattle.std.proofs.lemmas.List.{length-append, take-append-drop}
 use Rattle.std.proofs.lemmas.Nat.{from_be_bytes-to_be_bytes_4, from_be_bytes-to_be_bytes_8}
 use Rattle.check_word.specs.CheckWord.{check_word}
 use Rattle.check_word.proofs.Bound.{check_word-lt}
-use Rattle.base_core.specs.declared.flaw.Flaw.{Flaw}
-use Rattle.base_core.specs.declared.flaw.Flaw.TheVariants.{Short, Magic, Version, Check}
+use Rattle.base_bytes.specs.declared.flaw.Flaw.{Flaw}
+use Rattle.base_bytes.specs.declared.flaw.Flaw.TheVariants.{Short, Magic, Version, Check}
 use Rattle.skip_form.specs.declared.header.Header.{Header}
-use Rattle.base_core.specs.Fields.{part, u32_in, u64_in, AreBytes}
+use Rattle.base_bytes.specs.Fields.{part, u32_in, u64_in, AreBytes}
 use Rattle.skip_form.specs.Flaws.{header_flaw, header_in}
 use Rattle.skip_form.specs.Spelling.{IsHeader, header_bytes, header_front, magic}
-use Rattle.base_core.proofs.Parts.{AreBytes-part, part-add, to_be_bytes-u32_in, to_be_bytes-u64_in, u32_in-lt, u64_in-lt}
+use Rattle.base_bytes.proofs.Parts.{AreBytes-part, part-add, to_be_bytes-u32_in, to_be_bytes-u64_in, u32_in-lt, u64_in-lt}
 use Rattle.skip_form.proofs.TestLemmas.{passed, not_false}
 
 -- ---- the tests, one by one

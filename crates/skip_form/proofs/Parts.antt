@@ -2,8 +2,8 @@
 use Rattle.std.proofs.Common.{◌≡◌, ℕ, ◌+◌, ◌^◌, ◌<◌, ◌≤◌, List, length, refl, arith}
 use Rattle.std.specs.Int.{w16, to_be_bytes}
 use Rattle.std.proofs.lemmas.Nat.{be_bytes_2}
-use Rattle.base_core.specs.Fields.{AreBytes, part}
-use Rattle.base_core.proofs.Parts.{length-part, AreBytes-part}
+use Rattle.base_bytes.specs.Fields.{AreBytes, part}
+use Rattle.base_bytes.proofs.Parts.{length-part, AreBytes-part}
 use Rattle.skip_form.specs.Fields.{u16_in}
 
 -- the number's bytes are those that stand there

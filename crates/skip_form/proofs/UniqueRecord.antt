@@ -7,7 +7,7 @@ use Rattle.check_word.specs.CheckWord.{check_word}
 use Rattle.skip_form.specs.Flaws.{kind_of}
 use Rattle.skip_form.specs.Spelling.{Record, IsRecord, record_bytes, head_bytes, head_front, head_of, body_bytes, opening_bytes}
 use Rattle.skip_form.proofs.HeadLemmas.{kind_again, lengths_fit}
-use Rattle.base_core.proofs.Parts.{append_parts}
+use Rattle.base_bytes.proofs.Parts.{append_parts}
 use Rattle.skip_form.proofs.UniqueHeader.{same_2, same_4, same_8}
 
 pub length-numbers : (ps : List ℕ) → length (flat_map (to_be_bytes w64) ps) ≡ 8 * length ps

@@ -1,7 +1,7 @@
 -- Fields of a file that only this format has. All numbers are big-endian.
 use Rattle.std.specs.Prelude.{ℕ, ◌+◌, ◌*◌, List}
 use Rattle.std.specs.Int.{w16, from_be_bytes}
-use Rattle.base_core.specs.Fields.{part, u64_in}
+use Rattle.base_bytes.specs.Fields.{part, u64_in}
 
 -- the number of 16 bits in these bytes
 unfoldable pub u16_in : List ℕ → ℕ

@@ -2,14 +2,14 @@
 use Rattle.std.specs.Prelude.{ℕ, ◌+◌, ◌==◌, Bool, not, ◌&&◌, ◌||◌, List, length, Option, Some, None, nat_lt, nat_le, nat_eq, if◌then◌else◌, slice_index}
 use Rattle.std.specs.Cmp.Lexicographic.{pointwise}
 use Rattle.check_word.specs.CheckWord.{check_word}
-use Rattle.base_core.specs.declared.flaw.Flaw.{Flaw}
-use Rattle.base_core.specs.declared.flaw.Flaw.TheVariants.{Short, Magic, Version, Check, Kind, Level, Extended}
+use Rattle.base_bytes.specs.declared.flaw.Flaw.{Flaw}
+use Rattle.base_bytes.specs.declared.flaw.Flaw.TheVariants.{Short, Magic, Version, Check, Kind, Level, Extended}
 use Rattle.skip_form.specs.declared.header.Header.{Header}
 use Rattle.skip_form.specs.declared.head.Head.{Head}
 use Rattle.skip_form.specs.declared.head.Kind as kinds
 use Rattle.skip_form.specs.declared.head.Kind.TheVariants.{Dummy, Put, Gone, Commit}
 use Rattle.skip_form.specs.declared.opening.Opening.{Opening}
-use Rattle.base_core.specs.Fields.{part, u32_in, u64_in}
+use Rattle.base_bytes.specs.Fields.{part, u32_in, u64_in}
 use Rattle.skip_form.specs.Fields.{u16_in}
 use Rattle.skip_form.specs.Sizes.{record_size}
 use Rattle.skip_form.specs.Spelling.{magic}

@@ -7,7 +7,7 @@ use Rattle.skip_form.specs.declared.header.Header.{Header}
 use Rattle.skip_form.specs.declared.head.Head.{Head}
 use Rattle.skip_form.specs.declared.head.Kind.{Kind}
 use Rattle.skip_form.specs.declared.head.Kind.TheVariants.{Dummy, Put, Gone, Commit}
-use Rattle.base_core.specs.Fields.{part}
+use Rattle.base_bytes.specs.Fields.{part}
 use Rattle.skip_form.specs.Sizes.{padded, record_size}
 
 -- ---- the header

@@ -1,7 +1,7 @@
-// What is read of a file besides the fields of base_core.
+// What is read of a file besides the shared fields.
 ghost use Rattle.std.specs.Prelude.{◌≡◌, ◌+◌, ◌≤◌, length, nat_lt, not};
 ghost use Rattle.std.specs.Int.{w16, to_be_bytes};
-ghost use Rattle.base_core.specs.Fields.{part};
+ghost use Rattle.base_bytes.specs.Fields.{part};
 ghost use Rattle.skip_form.specs.Fields.{u16_in};
 
 /// The big-endian number of 16 bits at an offset.

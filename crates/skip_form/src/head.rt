@@ -2,7 +2,7 @@
 ghost use Rattle.std.specs.Prelude.{◌≡◌, ◌≤◌, ◌↔◌, ◌+◌, ◌*◌, ◌++◌, length, drop, Some, None, IfOk};
 ghost use Rattle.std.specs.Int.{w32, w64, to_be_bytes};
 ghost use Rattle.check_word.specs.CheckWord.{check_word};
-ghost use Rattle.base_core.specs.Fields.{part};
+ghost use Rattle.base_bytes.specs.Fields.{part};
 ghost use Rattle.skip_form.specs.Fields.{pointer_in};
 ghost use Rattle.skip_form.specs.Flaws.{head_flaw, head_in};
 ghost use Rattle.skip_form.specs.Sizes.{head_size};
@@ -10,7 +10,7 @@ ghost use Rattle.skip_form.specs.Spelling.{StandsAt, opening_bytes, head_front, 
 
 use crate::fields::has_room;
 use crate::opening::Opening;
-use base_core::{Flaw, u64_at};
+use base_bytes::{Flaw, u64_at};
 use byteorder::{BigEndian, ByteOrder};
 use check_word::check;
 

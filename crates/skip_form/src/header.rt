@@ -2,11 +2,11 @@
 ghost use Rattle.std.specs.Prelude.{◌≡◌, ◌≤◌, ◌↔◌, nat_eq, length, take, IfOk};
 ghost use Rattle.std.specs.Cmp.Lexicographic.{pointwise};
 ghost use Rattle.check_word.specs.CheckWord.{check_word};
-ghost use Rattle.base_core.specs.Fields.{part};
+ghost use Rattle.base_bytes.specs.Fields.{part};
 ghost use Rattle.skip_form.specs.Flaws.{header_flaw, header_in};
 ghost use Rattle.skip_form.specs.Spelling.{header_bytes, IsHeader, magic};
 
-use base_core::{Flaw, u32_at, u64_at};
+use base_bytes::{Flaw, u32_at, u64_at};
 use byteorder::{BigEndian, ByteOrder};
 use check_word::check;
 

@@ -3,7 +3,7 @@ ghost use Rattle.std.specs.Prelude.{◌≡◌, ◌+◌, ◌≤◌, length};
 ghost use Rattle.skip_form.specs.Sizes as sizes;
 
 use crate::fields::u16_at;
-use base_core::u32_at;
+use base_bytes::u32_at;
 
 /// What stands in the first eight bytes of a record, whatever it is.
 #[derive(Clone, Copy)]

@@ -1,6 +1,6 @@
 // Headers and records byte for byte, with check words as zlib gives them.
 use super::*;
-use base_core::Flaw;
+use base_bytes::Flaw;
 
 /// The header of an empty database.
 const EMPTY: Header = Header {

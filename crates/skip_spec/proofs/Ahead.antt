@@ -1,10 +1,10 @@
 -- The live records that are still ahead on the way along the list of a file without a flaw.
 use Rattle.std.proofs.Common.{◌≡◌, ◌≢◌, ℕ, ◌+◌, ◌≤◌, ◌<◌, List, [], ◌∷◌, ◌++◌, length, None, sym, ap, subst, ◌∙◌, append_assoc, append-nil, arith}
 use Rattle.std.proofs.lemmas.List.{map-append}
-use Rattle.base_core.specs.declared.pair.Pair.{Pair}
-use Rattle.base_core.specs.OrderedMap.{Map}
+use Rattle.base_bytes.specs.declared.pair.Pair.{Pair}
+use Rattle.base_bytes.specs.OrderedMap.{Map}
 use Rattle.skip_form.specs.Flaws.{header_in, head_flaw, head_in}
-use Rattle.base_core.specs.Fields.{AreBytes}
+use Rattle.base_bytes.specs.Fields.{AreBytes}
 use Rattle.skip_spec.specs.Records.{key_in, value_in}
 use Rattle.skip_spec.specs.Chain.{Entry, pairs}
 use Rattle.skip_spec.specs.MapOf.{map_of}

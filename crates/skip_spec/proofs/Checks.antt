@@ -2,9 +2,9 @@
 use Rattle.std.proofs.Common.{◌≡◌, ◌≢◌, ℕ, ◌+◌, ◌%◌, ◌<◌, Bool, true, false, cond, eqb, ltb, leb, List, [], ◌∷◌, length, Option, Some, None, refl, sym, ap, subst, ◌∙◌, inl, inr, arith}
 use Rattle.std.specs.Prelude.{◌||◌, ◌&&◌, not}
 use Rattle.std.proofs.lemmas.Bool.{cases_lt, cases_eq, ne_eqb, lt-ltb, le-leb, le-ltb, eqb-true}
-use Rattle.base_core.specs.declared.flaw.Flaw.{Flaw}
-use Rattle.base_core.specs.declared.flaw.Flaw.TheVariants.{Short, Kind, Level, Extended, Size, Unbuilt}
-use Rattle.base_core.specs.declared.flaw.Damage.{Damage}
+use Rattle.base_bytes.specs.declared.flaw.Flaw.{Flaw}
+use Rattle.base_bytes.specs.declared.flaw.Flaw.TheVariants.{Short, Kind, Level, Extended, Size, Unbuilt}
+use Rattle.base_bytes.specs.declared.flaw.Damage.{Damage}
 use Rattle.skip_form.specs.Flaws.{header_flaw, head_flaw, head_in, opening_in, is_kind_at, is_level, is_extended, kind_of}
 use Rattle.skip_form.specs.Spelling.{type_byte}
 use Rattle.skip_spec.specs.FirstFlaw.{unless, first_some, header_place, at_header_place, end_of, is_dirty, is_end_right, has_level_one, row_flaw, front_flaw}

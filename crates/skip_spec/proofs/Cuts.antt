@@ -2,7 +2,7 @@
 use Rattle.std.proofs.Common.{◌≡◌, ℕ, ◌+◌, ◌*◌, ◌/◌, ◌≤◌, List, length, take, refl, sym, ap, subst, ◌∙◌, inl, inr, arith}
 use Rattle.std.proofs.lemmas.List.{get_or-take, length-take}
 use Rattle.skip_form.specs.declared.header.Header.{Header}
-use Rattle.base_core.specs.Fields.{part, u64_in}
+use Rattle.base_bytes.specs.Fields.{part, u64_in}
 use Rattle.skip_form.specs.Fields.{pointer_in}
 use Rattle.skip_form.specs.Spelling.{header_bytes}
 use Rattle.skip_form.proofs.UniqueHeader.{header_bytes-same}

@@ -3,7 +3,7 @@ use Rattle.std.proofs.Common.{◌≡◌, ℕ, zero, suc, ltb, true, List, [], �
 use Rattle.std.specs.List.{list_all}
 use Rattle.std.proofs.lemmas.Bool.{ltb-true}
 use Rattle.check_word.specs.CheckWord.{after_byte, after_bits, after_bit}
-use Rattle.base_core.specs.Fields.{part, u32_in, u64_in, AreBytes}
+use Rattle.base_bytes.specs.Fields.{part, u32_in, u64_in, AreBytes}
 use Rattle.skip_form.specs.Fields.{u16_in}
 use Rattle.skip_spec.specs.Opens.{Opens}
 use Rattle.skip_spec.proofs.Flawless.{and_parts, front_right, opens}

@@ -3,17 +3,17 @@ use Rattle.std.proofs.Common.{◌≡◌, ◌≢◌, ℕ, zero, suc, ◌+◌, ◌
 use Rattle.std.specs.Prelude.{◌||◌, ◌&&◌, not}
 use Rattle.std.specs.List.{list_all, AllByRecursion}
 use Rattle.std.proofs.lemmas.Bool.{cases_lt, cases_eq, eqb-true, eq-eqb, ne_eqb, ltb-true, leb-true, lt-ltb, le-ltb}
-use Rattle.base_core.specs.OrderedMap.{Map}
-use Rattle.base_core.specs.declared.flaw.Flaw.{Flaw}
-use Rattle.base_core.specs.declared.flaw.Flaw.TheVariants.{Short, Kind, Level, Extended}
-use Rattle.base_core.specs.declared.flaw.Damage.{Damage}
+use Rattle.base_bytes.specs.OrderedMap.{Map}
+use Rattle.base_bytes.specs.declared.flaw.Flaw.{Flaw}
+use Rattle.base_bytes.specs.declared.flaw.Flaw.TheVariants.{Short, Kind, Level, Extended}
+use Rattle.base_bytes.specs.declared.flaw.Damage.{Damage}
 use Rattle.skip_form.specs.declared.head.Kind as kinds
 use Rattle.skip_form.specs.declared.head.Kind.TheVariants.{Dummy, Put, Gone, Commit}
 use Rattle.skip_form.specs.Fields.{pointer_in}
 use Rattle.skip_form.specs.Flaws.{header_flaw, header_in, head_in, opening_in, is_kind_at, is_level, is_extended}
 use Rattle.skip_form.specs.Spelling.{StandsAt, type_byte}
-use Rattle.base_core.specs.Fields.{AreBytes}
-use Rattle.base_core.proofs.Parts.{length-part}
+use Rattle.base_bytes.specs.Fields.{AreBytes}
+use Rattle.base_bytes.proofs.Parts.{length-part}
 use Rattle.skip_form.proofs.HeaderLemmas.{header_bytes-header_in}
 use Rattle.skip_form.proofs.HeadLemmas.{StandsAt-head_in}
 use Rattle.skip_spec.specs.Records.{HasKind, head_size_of, body_size_of, HeadCheckIsRight, TailCheckIsRight}

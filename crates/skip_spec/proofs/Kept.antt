@@ -4,7 +4,7 @@ use Rattle.std.proofs.lemmas.Bool.{cases_lt, le-ltb, lt-ltb, le-leb, lt-leb}
 use Rattle.check_word.specs.CheckWord.{check_word}
 use Rattle.skip_form.specs.declared.head.Head.{Head}
 use Rattle.skip_form.specs.declared.head.Kind.TheVariants.{Gone}
-use Rattle.base_core.specs.Fields.{part, u32_in, u64_in}
+use Rattle.base_bytes.specs.Fields.{part, u32_in, u64_in}
 use Rattle.skip_form.specs.Fields.{pointer_in}
 use Rattle.skip_form.specs.Flaws.{head_in}
 use Rattle.skip_form.specs.Spelling.{StandsAt}

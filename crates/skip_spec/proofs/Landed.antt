@@ -1,9 +1,9 @@
 -- A permitted write of which each line lands or not.
 use Rattle.std.proofs.Common.{◌≡◌, ℕ, ◌+◌, ◌-◌, ◌*◌, ◌/◌, ◌%◌, ◌<◌, ◌≤◌, List, length, get_or, take, refl, sym, ap, subst, ◌∙◌, inl, inr, arith, ◌⊎◌}
 use Rattle.std.proofs.lemmas.Bool.{cases_lt}
-use Rattle.base_core.specs.Landing.{Lands}
-use Rattle.base_core.proofs.Landings.{written_inside, lands_at, lands_kept}
-use Rattle.base_core.specs.Fields.{part, u64_in}
+use Rattle.base_bytes.specs.Landing.{Lands}
+use Rattle.base_bytes.proofs.Landings.{written_inside, lands_at, lands_kept}
+use Rattle.base_bytes.specs.Fields.{part, u64_in}
 use Rattle.skip_form.specs.Fields.{pointer_in}
 use Rattle.skip_spec.specs.Rows.{IsAmong}
 use Rattle.skip_spec.specs.Opens.{Contents, Reads, HasDirty}

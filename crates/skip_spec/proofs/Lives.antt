@@ -3,7 +3,7 @@ use Rattle.std.proofs.Common.{◌≡◌, ◌≢◌, ℕ, zero, suc, ◌+◌, ◌
 use Rattle.std.specs.Prelude.{◌||◌, ◌&&◌}
 use Rattle.std.specs.List.{AllByRecursion}
 use Rattle.std.proofs.lemmas.Bool.{le-ltb, cases_eq, ne_eqb, eq-eqb}
-use Rattle.base_core.specs.declared.flaw.Flaw.TheVariants.{Check, Tail, Padding, Order, Link, Count}
+use Rattle.base_bytes.specs.declared.flaw.Flaw.TheVariants.{Check, Tail, Padding, Order, Link, Count}
 use Rattle.skip_form.specs.Fields.{pointer_in}
 use Rattle.skip_form.specs.Flaws.{header_in, head_in}
 use Rattle.skip_spec.specs.Records.{key_in}

@@ -1,6 +1,6 @@
 -- The laws of files and maps.
 use Rattle.std.proofs.Common.{◌≡◌, ℕ, List, [], ◌∷◌, refl, sym, ap, subst, ◌∙◌, inl, inr, arith}
-use Rattle.base_core.specs.OrderedMap.{Map, IsOrderedMap, BeginsAbove}
+use Rattle.base_bytes.specs.OrderedMap.{Map, IsOrderedMap, BeginsAbove}
 use Rattle.std.specs.List.{AllByRecursion}
 use Rattle.skip_form.specs.declared.head.Head.{Head}
 use Rattle.skip_form.specs.declared.head.Kind.TheVariants.{Put}

@@ -4,17 +4,17 @@ use Rattle.std.specs.Prelude.{◌||◌, ◌&&◌, not}
 use Rattle.std.specs.List.{list_all, AllByRecursion}
 use Rattle.std.specs.Ordering.{is_lt}
 use Rattle.std.proofs.lemmas.Bool.{eq-eqb, ne_eqb, lt-ltb, le-leb}
-use Rattle.base_core.specs.OrderedMap.{Map, IsBelow}
-use Rattle.base_core.specs.declared.flaw.Flaw.{Flaw}
-use Rattle.base_core.specs.declared.flaw.Flaw.TheVariants.{Short, Kind, Level, Extended}
-use Rattle.base_core.specs.declared.flaw.Damage.{Damage}
+use Rattle.base_bytes.specs.OrderedMap.{Map, IsBelow}
+use Rattle.base_bytes.specs.declared.flaw.Flaw.{Flaw}
+use Rattle.base_bytes.specs.declared.flaw.Flaw.TheVariants.{Short, Kind, Level, Extended}
+use Rattle.base_bytes.specs.declared.flaw.Damage.{Damage}
 use Rattle.skip_form.specs.declared.head.Kind as kinds
 use Rattle.skip_form.specs.declared.head.Kind.TheVariants.{Dummy, Put, Gone, Commit}
 use Rattle.skip_form.specs.declared.header.Header.{Header}
 use Rattle.skip_form.specs.Fields.{pointer_in}
 use Rattle.skip_form.specs.Flaws.{header_flaw, header_in, head_in, opening_in, is_kind_at, is_level, is_extended}
 use Rattle.skip_form.specs.Spelling.{StandsAt, type_byte, IsLevelOf}
-use Rattle.base_core.specs.Fields.{AreBytes}
+use Rattle.base_bytes.specs.Fields.{AreBytes}
 use Rattle.skip_form.proofs.HeaderLemmas.{header_flaw-header_bytes}
 use Rattle.skip_form.proofs.HeadLemmas.{head_flaw-StandsAt}
 use Rattle.skip_spec.specs.Records.{HasKind, HeadCheckIsRight, TailCheckIsRight}

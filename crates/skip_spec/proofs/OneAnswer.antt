@@ -1,7 +1,7 @@
 -- Verification has one answer.
 use Rattle.std.proofs.Common.{◌≡◌, ◌≢◌, ℕ, ◌+◌, ◌<◌, ◌≤◌, List, [], ◌∷◌, length, Option, None, refl, sym, ap, subst, ◌∙◌, inl, inr, arith, ◌⊎◌}
 use Rattle.std.proofs.lemmas.Bool.{cases_lt}
-use Rattle.base_core.specs.declared.flaw.Damage.{Damage}
+use Rattle.base_bytes.specs.declared.flaw.Damage.{Damage}
 use Rattle.skip_form.specs.Flaws.{head_in}
 use Rattle.skip_spec.specs.Chain.{Entry}
 use Rattle.skip_spec.specs.FirstFlaw.{end_of, row_flaw, next_flaw, successor, latest, entry_at, RightRows, RightLive, InChain, FromDummy, FromRows, FirstFlaw}

@@ -3,7 +3,7 @@ use Rattle.std.proofs.Common.{◌≡◌, ℕ, zero, suc, ◌+◌, ◌≤◌, Lis
 use Rattle.std.proofs.lemmas.Bool.{cases_lt, le-ltb, eqb-true}
 use Rattle.check_word.specs.CheckWord.{after_byte, after_bits, after_bit}
 use Rattle.skip_form.specs.declared.head.Kind.TheVariants.{Put, Commit, Dummy}
-use Rattle.base_core.specs.Fields.{part, u32_in, u64_in}
+use Rattle.base_bytes.specs.Fields.{part, u32_in, u64_in}
 use Rattle.skip_form.specs.Fields.{pointer_in, u16_in}
 use Rattle.skip_form.specs.Spelling.{header_bytes}
 use Rattle.skip_spec.specs.Chain.{Entry}

@@ -1,11 +1,11 @@
 -- What a field says depends on its own bytes alone.
 use Rattle.std.proofs.Common.{◌≡◌, ℕ, ◌+◌, ◌<◌, ◌≤◌, List, length, get_or, drop, sym, ap, ◌∙◌, arith}
 use Rattle.std.proofs.lemmas.List.{get_or-take, get_or-drop, ext_get_or}
-use Rattle.base_core.specs.Fields.{part, u32_in}
+use Rattle.base_bytes.specs.Fields.{part, u32_in}
 use Rattle.skip_form.specs.Fields.{u16_in}
 use Rattle.skip_form.specs.Flaws.{head_in, kind_of}
 use Rattle.skip_form.specs.Sizes.{record_size}
-use Rattle.base_core.proofs.Parts.{length-part}
+use Rattle.base_bytes.proofs.Parts.{length-part}
 
 -- two lists have the same bytes from an offset on
 abbrev pub Agree : List ℕ → List ℕ → ℕ → ℕ → Type 0

@@ -2,8 +2,8 @@
 use Rattle.std.proofs.Common.{◌≡◌, ◌≢◌, ℕ, suc, ◌+◌, ◌≤◌, ◌<◌, Bool, true, false, cond, List, [], ◌∷◌, ◌++◌, length, Option, Some, None, refl, sym, ap, subst, ◌∙◌, inl, inr, arith}
 use Rattle.std.specs.List.{AllByRecursion}
 use Rattle.std.proofs.lemmas.Bool.{eq-eqb, ne_eqb}
-use Rattle.base_core.specs.declared.flaw.Damage.{Damage}
-use Rattle.base_core.specs.Fields.{part, AreBytes}
+use Rattle.base_bytes.specs.declared.flaw.Damage.{Damage}
+use Rattle.base_bytes.specs.Fields.{part, AreBytes}
 use Rattle.skip_form.specs.Flaws.{head_flaw, head_in}
 use Rattle.skip_spec.specs.Records.{key_in, head_size_of}
 use Rattle.skip_spec.specs.Rows.{IsAmong}

@@ -3,11 +3,11 @@ use Rattle.std.proofs.Common.{◌≡◌, ◌≢◌, ℕ, ◌+◌, ◌-◌, ◌*�
 use Rattle.std.specs.Ordering.{nat_cmp, ordering_reverse}
 use Rattle.std.specs.Cmp.Lexicographic.{slice_cmp, nat_list_cmp_total}
 use Rattle.std.specs.declared.cmp.Ordering.TheVariants.{Less}
-use Rattle.base_core.specs.OrderedMap.{IsBelow, BeginsAbove}
+use Rattle.base_bytes.specs.OrderedMap.{IsBelow, BeginsAbove}
 use Rattle.check_word.specs.CheckWord.{check_word}
 use Rattle.skip_form.specs.declared.head.Head.{Head}
 use Rattle.skip_form.specs.declared.head.Kind.TheVariants.{Dummy, Put, Gone}
-use Rattle.base_core.specs.Fields.{part, u32_in, u64_in}
+use Rattle.base_bytes.specs.Fields.{part, u32_in, u64_in}
 use Rattle.skip_form.specs.Fields.{pointer_in}
 use Rattle.skip_form.specs.Flaws.{head_in}
 use Rattle.skip_spec.specs.Records.{HasKind, TailCheckIsRight, key_in, head_size_of, body_size_of}

@@ -2,7 +2,7 @@
 use Rattle.std.proofs.Common.{◌≡◌, ℕ, ◌+◌, ◌<◌, Bool, true, false, eqb, List, [], ◌∷◌, length, Some, None, refl, ◌∙◌, arith}
 use Rattle.std.specs.Prelude.{◌||◌}
 use Rattle.std.proofs.lemmas.Bool.{ne_eqb, eq-eqb}
-use Rattle.base_core.specs.declared.flaw.Flaw.{Flaw}
+use Rattle.base_bytes.specs.declared.flaw.Flaw.{Flaw}
 use Rattle.skip_form.specs.Flaws.{head_flaw, head_in}
 use Rattle.skip_form.proofs.HeadLemmas.{head_inside}
 use Rattle.skip_spec.specs.FirstFlaw.{end_of, is_among, RightRows}

@@ -2,8 +2,8 @@
 use Rattle.std.proofs.Common.{◌≡◌, ◌≢◌, ℕ, Bool, true, false, cond, eqb, List, [], ◌∷◌, Option, Some, None, refl, sym, ◌∙◌}
 use Rattle.std.specs.Prelude.{◌||◌, not}
 use Rattle.std.proofs.lemmas.Bool.{ne_eqb}
-use Rattle.base_core.specs.declared.flaw.Flaw.TheVariants.{Check, Tail, Place, Kind, Slot}
-use Rattle.base_core.specs.declared.flaw.Damage.{Damage}
+use Rattle.base_bytes.specs.declared.flaw.Flaw.TheVariants.{Check, Tail, Place, Kind, Slot}
+use Rattle.base_bytes.specs.declared.flaw.Damage.{Damage}
 use Rattle.skip_form.specs.declared.head.Kind.TheVariants.{Put, Gone, Commit}
 use Rattle.skip_form.specs.Fields.{pointer_in}
 use Rattle.skip_spec.specs.FirstFlaw.{unless, first_some, is_of, is_among, is_head_right, is_tail_right, are_slots_right, pointer_under_end, delete_flaw, pointer_flaw, pointer_checks, way_checks, way_flaw, successor}

@@ -1,6 +1,6 @@
 -- The live records of a file, in the order of their keys.
 use Rattle.std.specs.Prelude.{◌≡◌, ℕ, List, [], ◌∷◌, map}
-use Rattle.base_core.specs.OrderedMap.{Map, IsBelow}
+use Rattle.base_bytes.specs.OrderedMap.{Map, IsBelow}
 use Rattle.skip_form.specs.declared.head.Kind.TheVariants.{Put}
 use Rattle.skip_form.specs.Flaws.{head_in}
 use Rattle.skip_spec.specs.Records.{HasKind, TailCheckIsRight, IsPadded, key_in, value_in}

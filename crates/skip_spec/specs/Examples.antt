@@ -1,9 +1,9 @@
 -- Three files by their bytes, with their check words as numbers. Offsets stand at the left.
 use Rattle.std.specs.Prelude.{ℕ, List, [], ◌∷◌, ◌++◌, replicate, codes}
 use Rattle.std.specs.Int.{w32, w64, to_be_bytes}
-use Rattle.base_core.specs.OrderedMap.{Map}
-use Rattle.base_core.specs.declared.flaw.Flaw.TheVariants.{Order}
-use Rattle.base_core.specs.declared.flaw.Damage.{Damage}
+use Rattle.base_bytes.specs.OrderedMap.{Map}
+use Rattle.base_bytes.specs.declared.flaw.Flaw.TheVariants.{Order}
+use Rattle.base_bytes.specs.declared.flaw.Damage.{Damage}
 
 -- ---- parts
 

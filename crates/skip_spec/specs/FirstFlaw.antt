@@ -2,14 +2,14 @@
 use Rattle.std.specs.Prelude.{◌≡◌, ◌≢◌, ℕ, zero, suc, ◌+◌, ◌-◌, ◌%◌, ◌==◌, ◌<◌, List, [], ◌∷◌, Bool, true, false, not, ◌&&◌, ◌||◌, if◌then◌else◌, length, Option, Some, None, nat_lt, nat_le, max, ◌⊎◌}
 use Rattle.std.specs.List.{list_all}
 use Rattle.std.specs.Ordering.{is_lt}
-use Rattle.base_core.specs.OrderedMap.{key_order}
-use Rattle.base_core.specs.declared.flaw.Flaw.{Flaw}
-use Rattle.base_core.specs.declared.flaw.Flaw.TheVariants.{Short, Version, Check, Kind, Level, Padding, Extended, Tail, Size, Place, Slot, Order, Link, Count, Unbuilt}
-use Rattle.base_core.specs.declared.flaw.Damage.{Damage}
+use Rattle.base_bytes.specs.OrderedMap.{key_order}
+use Rattle.base_bytes.specs.declared.flaw.Flaw.{Flaw}
+use Rattle.base_bytes.specs.declared.flaw.Flaw.TheVariants.{Short, Version, Check, Kind, Level, Padding, Extended, Tail, Size, Place, Slot, Order, Link, Count, Unbuilt}
+use Rattle.base_bytes.specs.declared.flaw.Damage.{Damage}
 use Rattle.check_word.specs.CheckWord.{check_word}
 use Rattle.skip_form.specs.declared.head.Kind as kinds
 use Rattle.skip_form.specs.declared.head.Kind.TheVariants.{Put, Gone, Commit}
-use Rattle.base_core.specs.Fields.{part, u32_in}
+use Rattle.base_bytes.specs.Fields.{part, u32_in}
 use Rattle.skip_form.specs.Fields.{pointer_in}
 use Rattle.skip_form.specs.Flaws.{header_flaw, header_in, opening_in, head_in, is_kind_at, is_level, is_extended}
 use Rattle.skip_form.specs.Spelling.{type_byte}

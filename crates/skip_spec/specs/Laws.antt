@@ -1,9 +1,9 @@
 -- Laws of files and images.
 use Rattle.std.specs.Prelude.{◌≡◌, ◌↔◌, ◌≤◌, ℕ, List, [], ◌∷◌, ◌++◌, take, Option, None}
-use Rattle.base_core.specs.Fields.{AreBytes}
-use Rattle.base_core.specs.OrderedMap.{Map, IsOrderedMap, IsBelow, BeginsAbove}
-use Rattle.base_core.specs.Landing.{Lands}
-use Rattle.base_core.specs.declared.flaw.Damage.{Damage}
+use Rattle.base_bytes.specs.Fields.{AreBytes}
+use Rattle.base_bytes.specs.OrderedMap.{Map, IsOrderedMap, IsBelow, BeginsAbove}
+use Rattle.base_bytes.specs.Landing.{Lands}
+use Rattle.base_bytes.specs.declared.flaw.Damage.{Damage}
 use Rattle.skip_spec.specs.FirstFlaw.{FirstFlaw}
 use Rattle.skip_spec.specs.Opens.{Contents, Reads, Means, OnlyLevelOne, Opens, HasDirty}
 use Rattle.skip_spec.specs.Near.{Near, IsPermittedWrite}

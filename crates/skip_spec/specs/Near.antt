@@ -1,6 +1,6 @@
 -- The images that an unfinished transaction or recovery may leave of a committed file, called the base.
 use Rattle.std.specs.Prelude.{◌≡◌, ℕ, ◌+◌, ◌*◌, ◌-◌, ◌<◌, ◌≤◌, List, ◌∷◌, length, take, map, slice_index, nat_lt, nat_le, if◌then◌else◌, ◌⊎◌}
-use Rattle.base_core.specs.Fields.{part, u64_in}
+use Rattle.base_bytes.specs.Fields.{part, u64_in}
 use Rattle.skip_form.specs.Fields.{pointer_in}
 use Rattle.skip_form.specs.Flaws.{head_in}
 use Rattle.skip_form.specs.Spelling.{header_bytes}

@@ -1,7 +1,7 @@
 -- The map that a file stands for, and which files open.
 use Rattle.std.specs.Prelude.{◌≡◌, ℕ, ◌+◌, ◌*◌, ◌/◌, ◌%◌, ◌<◌, ◌≤◌, List, [], ◌∷◌, length, take, filter, nat_lt, ◌⊎◌}
 use Rattle.std.specs.List.{AllByRecursion}
-use Rattle.base_core.specs.OrderedMap.{Map}
+use Rattle.base_bytes.specs.OrderedMap.{Map}
 use Rattle.skip_form.specs.declared.head.Kind.TheVariants.{Put}
 use Rattle.skip_form.specs.declared.header.Header.{Header}
 use Rattle.skip_form.specs.Fields.{pointer_in}

@@ -3,7 +3,7 @@ use Rattle.std.specs.Prelude.{◌≡◌, ℕ, ◌+◌, ◌-◌, List, replicate}
 use Rattle.check_word.specs.CheckWord.{check_word}
 use Rattle.skip_form.specs.declared.head.Head.{Head}
 use Rattle.skip_form.specs.declared.head.Kind.{Kind}
-use Rattle.base_core.specs.Fields.{part, u32_in}
+use Rattle.base_bytes.specs.Fields.{part, u32_in}
 use Rattle.skip_form.specs.Flaws.{head_in}
 use Rattle.skip_form.specs.Sizes.{head_size, padded}
 

@@ -1,10 +1,10 @@
 // The header, and the rows of records.
 ghost use Rattle.std.specs.Prelude.{◌≡◌, ◌+◌, ◌%◌, ◌==◌, ◌&&◌, ◌↔◌, not, nat_le, length, true, Some, None};
-ghost use Rattle.base_core.specs.declared.flaw.Flaw.TheVariants.{Short};
+ghost use Rattle.base_bytes.specs.declared.flaw.Flaw.TheVariants.{Short};
 ghost use Rattle.skip_form.specs.Flaws.{header_flaw, header_in, head_flaw, head_in, opening_in};
 ghost use Rattle.skip_spec.specs.FirstFlaw.{end_of, header_place, has_level_one, is_end_right, row_flaw, front_flaw};
 
-use base_core::{Damage, Flaw};
+use base_bytes::{Damage, Flaw};
 use skip_form::{Head, Header, Kind, head_at, read_header};
 
 /// Where a flaw of the header is reported.

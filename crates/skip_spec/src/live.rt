@@ -7,7 +7,7 @@ ghost use Rattle.skip_spec.specs.Chain.{Entry};
 ghost use Rattle.skip_spec.specs.FirstFlaw.{is_dirty, is_zero, is_below, is_padding_right, lead_to, latest_key, dummy_flaw, live_flaw, end_flaw};
 
 use crate::words::{head_size, is_head_right, is_tail_right};
-use base_core::{Damage, Flaw, compare_keys, part_at};
+use base_bytes::{Damage, Flaw, compare_keys, part_at};
 use skip_form::{Head, head_at, pointer, read_header};
 
 /// The head of the record at an offset at which there is one.

@@ -1,6 +1,6 @@
 // The map of a file, slowly: it walks the rows again for each pointer.
 ghost use Rattle.std.specs.Prelude.{◌≡◌, Some, None, IfOk, IfErr, IfSome, IsNone};
-ghost use Rattle.base_core.specs.declared.flaw.Damage.{Damage};
+ghost use Rattle.base_bytes.specs.declared.flaw.Damage.{Damage};
 ghost use Rattle.skip_form.specs.Flaws.{head_flaw};
 ghost use Rattle.skip_spec.specs.Records.{key_in, value_in};
 ghost use Rattle.skip_spec.specs.FirstFlaw.{FirstFlaw};
@@ -10,7 +10,7 @@ ghost use Rattle.skip_spec.specs.Opens.{Opens};
 use crate::live::{counted, head_of, key, value};
 use crate::verify::first_flaw;
 use crate::way::successor;
-use base_core::{NoMemory, Pair};
+use base_bytes::{NoMemory, Pair};
 use std::alloc::{AllocError, Global};
 
 /// The key and the value of the record at an offset.

@@ -1,6 +1,6 @@
 // First flaws and maps of whole files, with check words as zlib gives them.
 use super::*;
-use base_core::{Damage, Flaw};
+use base_bytes::{Damage, Flaw};
 use std::alloc::Global;
 use std::test::Fail;
 

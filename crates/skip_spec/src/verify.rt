@@ -5,7 +5,7 @@ ghost use Rattle.skip_spec.specs.FirstFlaw.{end_of, row_flaw, front_flaw, RightR
 use crate::front::{front, row};
 use crate::live::{dummy, end, head_of, live};
 use crate::way::{successor, way};
-use base_core::Damage;
+use base_bytes::Damage;
 
 /// What is wrong with the place, type, level and lengths of the first wrong record from 336 on.
 fn rows(file: &[u8]) -> Option<Damage>

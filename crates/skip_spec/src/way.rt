@@ -6,7 +6,7 @@ ghost use Rattle.skip_spec.specs.FirstFlaw.{end_of, is_dirty, below_or_zero, poi
 
 use crate::starts::{is_commit, is_delete, is_put, start};
 use crate::words::{is_head_right, is_tail_right};
-use base_core::{Damage, Flaw};
+use base_bytes::{Damage, Flaw};
 use skip_form::{Head, pointer};
 
 /// What is wrong with the delete record at an offset.

@@ -5,7 +5,7 @@ ghost use Rattle.skip_form.specs.Sizes as sizes;
 ghost use Rattle.skip_spec.specs.Records.{head_size_of};
 ghost use Rattle.skip_spec.specs.FirstFlaw.{is_head_right, is_tail_right};
 
-use base_core::{part_at, u32_at};
+use base_bytes::{part_at, u32_at};
 use check_word::check;
 use skip_form::Head;
 

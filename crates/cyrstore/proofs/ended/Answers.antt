@@ -1,5 +1,5 @@
 use Rattle.std.proofs.Common.{inl, inr, ⊎_elim, sym, ◌∙◌, ap}
-use Rattle.base_core.specs.Notes.{status_of}
+use Rattle.base_notes.specs.Notes.{status_of}
 use Rattle.cyr_top.proofs.StatusLemmas.{only_done, of_cut_off}
 use Rattle.cyrstore.proofs.ended.Goals as goal
 

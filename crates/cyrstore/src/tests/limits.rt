@@ -1,6 +1,6 @@
 // Keys, values and files at their limits.
 use super::cases::{action_words, host_of, status_of};
-use base_core::{FLAT_LIMIT, KEY_LIMIT, VALUE_LIMIT};
+use base_bytes::{FLAT_LIMIT, KEY_LIMIT, VALUE_LIMIT};
 use disk_kinds::{MemDisk, MemHost};
 use std::alloc::Global;
 use std::process::Abort;

@@ -1,6 +1,7 @@
 // The devices on real files. Each test works in a folder of its own, and removes it at its end.
 use crate::{FileDisk, FileHost};
-use base_core::{Disk, Failed, Host, Text};
+use base_bytes::Text;
+use base_devices::{Disk, Failed, Host};
 use std::fs::Permissions;
 use std::os::fd::AsRawFd;
 use std::os::unix::fs::{FileExt, MetadataExt, PermissionsExt, symlink};

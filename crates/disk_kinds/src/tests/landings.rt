@@ -1,6 +1,7 @@
 // What a stop leaves of a disk in memory, by which landings landed.
 use crate::{MemDisk, MemHost};
-use base_core::{Disk, Failed, Host, NoMemory};
+use base_bytes::NoMemory;
+use base_devices::{Disk, Failed, Host};
 use std::alloc::Global;
 use std::test::Fail;
 

@@ -1,5 +1,5 @@
 use crate::{Counts, MemDisk, MemHost};
-use base_core::{Disk, Failed, Host};
+use base_devices::{Disk, Failed, Host};
 use std::test::Fail;
 
 // Puts these bytes in the main file's place.

@@ -1,7 +1,7 @@
 // Whole transactions over each session.
 use super::map_db::MapDb;
 use super::steps::{Pairs, reads};
-use base_core::{Bytes, NoMemory};
+use base_bytes::{Bytes, NoMemory};
 use db_core::{Change, Db, DbFault, run_changes};
 use disk_kinds::MemDisk;
 use flat_db::open_db;

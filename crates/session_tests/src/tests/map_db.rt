@@ -1,7 +1,8 @@
 // A session whose maps are in memory alone.
 ghost use Rattle.std.specs.Prelude.{◌≤◌};
 
-use base_core::{Disk, Pair, compare_keys};
+use base_bytes::{Pair, compare_keys};
+use base_devices::Disk;
 use db_core::{Db, DbFault, pair_fault};
 use std::alloc::Global;
 use std::collections::BTreeMap;

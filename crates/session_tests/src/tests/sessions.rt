@@ -1,6 +1,7 @@
 // Sessions over flat text in a disk in memory, and what its file reads after them.
 use super::steps::{Answer, Pairs, Step, first_wrong};
-use base_core::{Damage, Failed, Flaw};
+use base_bytes::{Damage, Flaw};
+use base_devices::Failed;
 use db_core::{Db, DbFault, OpenFault};
 use disk_kinds::MemDisk;
 use flat_db::{check_db, create, open_db};

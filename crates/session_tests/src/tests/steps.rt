@@ -1,5 +1,5 @@
 // Calls on a session, as the tables of the tests name them.
-use base_core::Disk;
+use base_devices::Disk;
 use db_core::{Db, DbFault};
 
 /// Some pairs, by rising key.

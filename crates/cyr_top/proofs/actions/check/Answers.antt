@@ -1,7 +1,7 @@
 use Rattle.std.proofs.Common.{false, codes, inl, refl, sym, ◌∙◌, ap, subst}
-use Rattle.base_core.specs.declared.action.Action.TheVariants.{Consistent}
-use Rattle.base_core.specs.declared.note.Note.TheVariants.{Done, Answer}
-use Rattle.base_core.specs.HostCalls.{HostState}
+use Rattle.base_notes.specs.declared.action.Action.TheVariants.{Consistent}
+use Rattle.base_notes.specs.declared.note.Note.TheVariants.{Done, Answer}
+use Rattle.base_devices.specs.HostCalls.{HostState}
 use Rattle.db_core.specs.declared.fault.OpenFault.TheVariants.{Damaged as Flawed}
 use Rattle.flat_db.proofs.OpeningLemmas.{stays_less}
 use Rattle.flat_db.specs.Opening.{IsRefused}

@@ -1,6 +1,6 @@
 use Rattle.std.proofs.Common.{◌≡◌, ℕ, Option, Some, subst}
-use Rattle.base_core.specs.CrashImages.{Image}
-use Rattle.base_core.specs.DiskCalls.{IsLength}
+use Rattle.base_devices.specs.CrashImages.{Image}
+use Rattle.base_devices.specs.DiskCalls.{IsLength}
 use Rattle.cyr_top.proofs.MakeLemmas.{made_before, made_now}
 use Rattle.cyr_top.proofs.actions.make_absent.Goals as goal
 

@@ -1,6 +1,6 @@
 use Rattle.std.proofs.Common.{Bool, sym, subst}
-use Rattle.base_core.specs.declared.note.Device.TheVariants.{Host}
-use Rattle.base_core.specs.declared.note.Note.TheVariants.{DeviceFault}
+use Rattle.base_notes.specs.declared.note.Device.TheVariants.{Host}
+use Rattle.base_notes.specs.declared.note.Note.TheVariants.{DeviceFault}
 use Rattle.cyr_top.specs.Runs.{Runs}
 use Rattle.cyr_top.proofs.MakeLemmas.{not_made, made_then}
 use Rattle.cyr_top.proofs.actions.make_and_do.Goals as goal

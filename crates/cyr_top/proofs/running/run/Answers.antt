@@ -1,4 +1,4 @@
-use Rattle.base_core.specs.CrashImages.{GoesOn}
+use Rattle.base_devices.specs.CrashImages.{GoesOn}
 use Rattle.cyr_top.proofs.CrashLemmas.{runs_still, exactly_shown, crash_keeps, done_opens, others_open}
 use Rattle.cyr_top.proofs.running.run.Given.{Over}
 use Rattle.cyr_top.proofs.running.run.Goals as goal

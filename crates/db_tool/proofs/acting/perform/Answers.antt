@@ -1,5 +1,5 @@
 use Rattle.std.proofs.Common.{sym, subst}
-use Rattle.base_core.specs.declared.action.Action.{Action}
+use Rattle.base_notes.specs.declared.action.Action.{Action}
 use Rattle.rand_core.specs.Stream.{next_u32}
 use Rattle.db_tool.specs.Acting.{Acts}
 use Rattle.db_tool.proofs.acting.perform.Goals as goal

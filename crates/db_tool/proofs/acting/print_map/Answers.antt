@@ -1,6 +1,6 @@
 use Rattle.std.proofs.Common.{◌++◌, [], ℕ, List, Err, refl, subst}
 use Rattle.std.proofs.lemmas.List.{append-nil}
-use Rattle.base_core.specs.OrderedMap.{with_prefix}
+use Rattle.base_bytes.specs.OrderedMap.{with_prefix}
 use Rattle.db_tool.specs.Acting.{shown}
 use Rattle.db_tool.specs.Printing.{Prints}
 use Rattle.db_tool.proofs.PrintLemmas.{prints_then, prints_told, prints_whole}

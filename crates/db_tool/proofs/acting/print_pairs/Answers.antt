@@ -1,6 +1,6 @@
 use Rattle.std.proofs.Common.{◌∷◌, ◌++◌, [], ℕ, List, Some, None, Ok, Err, length, sym, ◌∙◌, ap, subst, arith, length-append}
-use Rattle.base_core.specs.OrderedMap.{Map, with_prefix}
-use Rattle.base_core.specs.declared.disk.Failed.{Failed}
+use Rattle.base_bytes.specs.OrderedMap.{Map, with_prefix}
+use Rattle.base_devices.specs.declared.disk.Failed.{Failed}
 use Rattle.db_core.specs.Answers.{pair_of}
 use Rattle.db_tool.specs.Acting.{pair_text, shown}
 use Rattle.db_tool.specs.Printing.{Prints}

@@ -1,6 +1,6 @@
 use Rattle.std.proofs.Common.{◌≤◌, ◌+◌, Ok, length}
-use Rattle.base_core.specs.OrderedMap.{Map, with_prefix}
-use Rattle.base_core.specs.declared.disk.Failed.{Failed}
+use Rattle.base_bytes.specs.OrderedMap.{Map, with_prefix}
+use Rattle.base_devices.specs.declared.disk.Failed.{Failed}
 use Rattle.db_core.specs.Answers.{pair_of}
 use Rattle.db_tool.specs.Acting.{shown}
 use Rattle.db_tool.specs.Printing.{Prints}

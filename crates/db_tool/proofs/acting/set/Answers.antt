@@ -1,13 +1,13 @@
 use Rattle.std.proofs.Common.{rules, ◌≡◌, ◌∷◌, [], Bool, Option, Some, sym, ◌∙◌, ap, subst}
 use Rattle.std.specs.Option.{option_map}
 use Rattle.std.specs.Prelude.{if◌then◌else◌}
-use Rattle.base_core.specs.HostCalls.{HostState}
-use Rattle.base_core.specs.declared.action.Action.TheVariants.{Set}
-use Rattle.base_core.specs.declared.note.Note.{Note}
-use Rattle.base_core.specs.declared.note.Note.TheVariants.{BadLine}
+use Rattle.base_devices.specs.HostCalls.{HostState}
+use Rattle.base_notes.specs.declared.action.Action.TheVariants.{Set}
+use Rattle.base_notes.specs.declared.note.Note.{Note}
+use Rattle.base_notes.specs.declared.note.Note.TheVariants.{BadLine}
 use Rattle.db_core.specs.WholeTransactions.{run_refusal}
-use Rattle.db_core.specs.declared.change.Change.{Change}
-use Rattle.db_core.specs.declared.change.Change.TheVariants.{Put}
+use Rattle.base_bytes.specs.declared.change.Change.{Change}
+use Rattle.base_bytes.specs.declared.change.Change.TheVariants.{Put}
 use Rattle.db_tool.specs.Acting.{MayRefuse, change_note, owed_by, output_by}
 use Rattle.db_tool.proofs.PrintLemmas.{told_none}
 use Rattle.db_tool.proofs.acting.set.Given.{Over}

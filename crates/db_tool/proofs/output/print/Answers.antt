@@ -1,7 +1,7 @@
 use Rattle.std.proofs.Common.{◌≡◌, ◌+◌, ◌-◌, ◌++◌, [], ℕ, List, Ok, Err, length, take, drop, sym, ◌∙◌, ap, subst, arith}
 use Rattle.std.proofs.lemmas.List.{take_rest, length-drop, append-nil, take-append-drop}
 use Rattle.std.proofs.Math.Seq.{take-add}
-use Rattle.base_core.specs.declared.disk.Failed.{Failed}
+use Rattle.base_devices.specs.declared.disk.Failed.{Failed}
 use Rattle.db_tool.specs.Printing.{Prints}
 use Rattle.db_tool.proofs.PrintLemmas.{prints_none, prints_then, prints_held, prints_ended}
 use Rattle.db_tool.proofs.output.print.Goals as goal

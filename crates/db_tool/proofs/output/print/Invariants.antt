@@ -1,6 +1,6 @@
 use Rattle.std.proofs.Common.{Ok, ◌≤◌, ◌-◌, length, take}
 use Rattle.db_tool.specs.Printing.{Prints}
-use Rattle.base_core.specs.declared.disk.Failed.{Failed}
+use Rattle.base_devices.specs.declared.disk.Failed.{Failed}
 use Rattle.db_tool.proofs.output.print.Given as goal
 
 abbrev pub invariant-loop-at : goal.invariant-loop-at

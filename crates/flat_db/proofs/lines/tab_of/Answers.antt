@@ -1,7 +1,7 @@
 use Rattle.std.proofs.Common.{◌≡◌, ◌<◌, ◌+◌, ◌∷◌, ◌++◌, ℕ, true, List, length, get_or, take, drop, inl, inr, refl, sym, ◌∙◌, ap, subst, arith}
 use Rattle.std.specs.Prelude.{◌==◌}
 use Rattle.std.proofs.lemmas.List.{take_all, take_rest, take-append-drop, drop_more, length-take-le}
-use Rattle.base_core.specs.Escapes.{Spells, IsBadEscape}
+use Rattle.base_bytes.specs.Escapes.{Spells, IsBadEscape}
 use Rattle.flat_db.specs.FlatText.{IsFree, HasFields, without_tab, with_bad_escape, with_empty_key}
 use Rattle.flat_db.proofs.FieldLemmas.{free_take, byte_is}
 use Rattle.flat_db.proofs.lines.tab_of.Goals as goal

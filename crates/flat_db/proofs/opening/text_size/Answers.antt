@@ -1,5 +1,5 @@
 use Rattle.std.proofs.Common.{Some, sym, ◌∙◌, ap}
-use Rattle.base_core.proofs.Lengths.{absent_length, there_length}
+use Rattle.base_devices.proofs.Lengths.{absent_length, there_length}
 use Rattle.flat_db.proofs.OpeningLemmas.{some_of}
 use Rattle.flat_db.proofs.opening.text_size.Goals as goal
 

@@ -3,7 +3,7 @@ use Rattle.std.proofs.Math.Numerals.{add-one}
 use Rattle.std.proofs.lemmas.Fn.{always_returns_same}
 use Rattle.std.specs.List.{IsAllAdjacentAnswer}
 use Rattle.std.specs.Ordering.{is_lt}
-use Rattle.base_core.specs.OrderedMap.{IsOrderedMap, IsBelow, key_order}
+use Rattle.base_bytes.specs.OrderedMap.{IsOrderedMap, IsBelow, key_order}
 use Rattle.flat_db.specs.Entries.{part_of, pairs_of}
 use Rattle.flat_db.specs.declared.entries.Entry.{Entry}
 use Rattle.flat_db.proofs.PlaceLemmas.{is_below}

@@ -2,7 +2,7 @@ use Rattle.std.proofs.Common.{◌≡◌, ◌∷◌, ◌++◌, [], ℕ, List, len
 use Rattle.std.specs.List.{All}
 use Rattle.std.proofs.lemmas.List.{map_push, length-drop}
 use Rattle.std.proofs.lemmas.Grind.{common_steps}
-use Rattle.base_core.specs.OrderedMap.{Map}
+use Rattle.base_bytes.specs.OrderedMap.{Map}
 use Rattle.flat_db.specs.FlatText.{HasLine, SaysPairs}
 use Rattle.flat_db.specs.Entries.{pair_of, pairs_of, EndsBy}
 use Rattle.flat_db.specs.declared.entries.Entry.{Entry}

@@ -2,7 +2,7 @@ use Rattle.std.proofs.Common.{◌≡◌, ◌≤◌, ◌+◌, ◌-◌, ◌++◌, 
 use Rattle.std.proofs.lemmas.List.{take_rest, length-drop, append-nil}
 use Rattle.std.proofs.Math.Seq.{take-add}
 use Rattle.std.proofs.lemmas.List.Concat.{flat_map-append}
-use Rattle.base_core.specs.Escapes.{escaped, escaped_byte}
+use Rattle.base_bytes.specs.Escapes.{escaped, escaped_byte}
 use Rattle.flat_db.proofs.Adding.{Adds, adds_none, adds_then, adds_more}
 use Rattle.flat_db.proofs.writing.write_field.Goals as goal
 

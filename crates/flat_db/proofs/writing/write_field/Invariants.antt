@@ -1,5 +1,5 @@
 use Rattle.std.proofs.Common.{◌≤◌, ◌-◌, length, take}
-use Rattle.base_core.specs.Escapes.{escaped}
+use Rattle.base_bytes.specs.Escapes.{escaped}
 use Rattle.flat_db.proofs.Adding.{Adds}
 use Rattle.flat_db.proofs.writing.write_field.Given as goal
 

@@ -1,5 +1,5 @@
 use Rattle.std.proofs.Common.{◌≡◌, ◌∷◌, ◌++◌, [], ℕ, List, ◌∙◌, ap, subst, append_assoc}
-use Rattle.base_core.specs.Escapes.{escaped}
+use Rattle.base_bytes.specs.Escapes.{escaped}
 use Rattle.flat_db.specs.FlatText.{pair_line}
 use Rattle.flat_db.specs.Writing.{AddsBytes}
 use Rattle.flat_db.proofs.Adding.{adds_then}

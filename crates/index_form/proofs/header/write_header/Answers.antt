@@ -1,7 +1,7 @@
 use Rattle.std.proofs.Common.{◌≡◌, [], length, take, refl, sym, ap, ◌∙◌, arith, replicate}
 use Rattle.std.specs.Int.{w32, to_be_bytes}
 use Rattle.check_word.specs.CheckWord.{check_word}
-use Rattle.base_core.specs.Fields.{part}
+use Rattle.base_bytes.specs.Fields.{part}
 use Rattle.index_form.specs.Spelling.{header_fields, header_front, header_bytes}
 use Rattle.index_form.proofs.Joined.{whole_part, one_more, joined-concat}
 use Rattle.index_form.proofs.header.write_header.Goals as goal

@@ -1,6 +1,6 @@
 use Rattle.std.proofs.Common.{◌≡◌, Option, Some, None, refl, sym, ◌∙◌, arith}
 use Rattle.index_form.specs.declared.fault.IndexFault.{IndexFault}
-use Rattle.base_core.specs.Fields.{part}
+use Rattle.base_bytes.specs.Fields.{part}
 use Rattle.index_form.proofs.HeaderLemmas.{header_bytes-header_in}
 use Rattle.index_form.proofs.IndexLemmas.{is_read}
 use Rattle.index_form.proofs.reading.view_index.Goals as goal

@@ -1,5 +1,5 @@
 use Rattle.std.proofs.Common.{arith, ◌∙◌}
-use Rattle.base_core.specs.Fields.{part}
+use Rattle.base_bytes.specs.Fields.{part}
 use Rattle.index_form.specs.Spelling.{record_front}
 use Rattle.index_form.proofs.RecordLemmas.{record_front-record_in}
 use Rattle.index_form.proofs.record.record_at.Goals as goal

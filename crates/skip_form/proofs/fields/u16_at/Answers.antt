@@ -1,6 +1,6 @@
 use Rattle.std.proofs.Common.{ap, sym, ◌∙◌}
 use Rattle.skip_form.specs.Fields.{u16_in}
-use Rattle.base_core.proofs.Parts.{part-2}
+use Rattle.base_bytes.proofs.Parts.{part-2}
 use Rattle.skip_form.proofs.fields.u16_at.Goals as goal
 
 pub returns : goal.returns

@@ -1,5 +1,5 @@
 use Rattle.std.proofs.Common.{◌≡◌, sym, ap, ◌∙◌, arith, Result, Ok, Option, Some, None, subst}
-use Rattle.base_core.specs.declared.flaw.Flaw.{Flaw}
+use Rattle.base_bytes.specs.declared.flaw.Flaw.{Flaw}
 use Rattle.skip_form.specs.declared.head.Head.{Head}
 use Rattle.skip_form.specs.Spelling.{StandsAt}
 use Rattle.skip_form.proofs.HeadLemmas.{StandsAt-head_in, head_flaw-StandsAt}

@@ -1,7 +1,7 @@
 use Rattle.std.proofs.Common.{ap, arith, ◌∙◌, ◌+◌, ◌*◌}
 use Rattle.std.specs.Int.{w64, to_be_bytes}
 use Rattle.skip_form.proofs.HeadLemmas.{head_inside}
-use Rattle.base_core.proofs.Parts.{to_be_bytes-u64_in}
+use Rattle.base_bytes.proofs.Parts.{to_be_bytes-u64_in}
 use Rattle.skip_form.proofs.head.pointer.Goals as goal
 
 pub returns-clause-spelled : goal.returns-clause-spelled

@@ -1,5 +1,5 @@
 use Rattle.std.proofs.Common.{◌≡◌, sym, ap, ◌∙◌, arith, Result, Ok, Option, Some, None, subst, take}
-use Rattle.base_core.specs.declared.flaw.Flaw.{Flaw}
+use Rattle.base_bytes.specs.declared.flaw.Flaw.{Flaw}
 use Rattle.skip_form.specs.declared.header.Header.{Header}
 use Rattle.skip_form.specs.Spelling.{IsHeader, header_bytes}
 use Rattle.skip_form.proofs.HeaderLemmas.{header_bytes-header_in, header_flaw-header_bytes}

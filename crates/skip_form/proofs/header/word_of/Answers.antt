@@ -1,4 +1,4 @@
-use Rattle.base_core.specs.Fields.{part}
+use Rattle.base_bytes.specs.Fields.{part}
 use Rattle.skip_form.proofs.header.word_of.Goals as goal
 
 pub returns : goal.returns

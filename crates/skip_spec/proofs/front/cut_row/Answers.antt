@@ -1,5 +1,5 @@
 use Rattle.std.proofs.Common.{Bool, Some, cond, sym, ap, ◌∙◌}
-use Rattle.base_core.specs.declared.flaw.Flaw.TheVariants.{Short, Unbuilt}
+use Rattle.base_bytes.specs.declared.flaw.Flaw.TheVariants.{Short, Unbuilt}
 use Rattle.skip_spec.proofs.Checks.{damage, row_of_short}
 use Rattle.skip_spec.proofs.front.cut_row.Goals as goal
 

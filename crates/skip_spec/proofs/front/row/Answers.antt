@@ -1,6 +1,6 @@
 use Rattle.std.proofs.Common.{Bool, Some, None, cond, sym, ap, ◌∙◌}
-use Rattle.base_core.specs.declared.flaw.Flaw.{Flaw}
-use Rattle.base_core.specs.declared.flaw.Flaw.TheVariants.{Unbuilt}
+use Rattle.base_bytes.specs.declared.flaw.Flaw.{Flaw}
+use Rattle.base_bytes.specs.declared.flaw.Flaw.TheVariants.{Unbuilt}
 use Rattle.skip_spec.proofs.Checks.{damage, row_of_right, row_of_flaw}
 use Rattle.skip_spec.proofs.front.row.Goals as goal
 

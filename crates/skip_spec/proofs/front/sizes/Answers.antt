@@ -1,6 +1,6 @@
 use Rattle.std.proofs.Common.{◌≡◌, ◌%◌, Bool, true, false, cond, Some, sym, ap, ◌∙◌}
 use Rattle.std.proofs.lemmas.Bool.{eq-eqb, ne_eqb}
-use Rattle.base_core.specs.declared.flaw.Flaw.TheVariants.{Unbuilt}
+use Rattle.base_bytes.specs.declared.flaw.Flaw.TheVariants.{Unbuilt}
 use Rattle.skip_form.specs.declared.header.Header.{Header}
 use Rattle.skip_spec.specs.FirstFlaw.{is_dirty, row_flaw}
 use Rattle.skip_spec.proofs.Checks.{damage, front_of_size, front_of_row}

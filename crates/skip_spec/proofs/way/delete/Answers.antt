@@ -1,6 +1,6 @@
 use Rattle.std.proofs.Common.{ℕ, true, false, eqb, Some, refl, sym, ap, ◌∙◌}
 use Rattle.std.proofs.lemmas.Bool.{eq-eqb, ne_eqb}
-use Rattle.base_core.specs.declared.flaw.Flaw.TheVariants.{Kind}
+use Rattle.base_bytes.specs.declared.flaw.Flaw.TheVariants.{Kind}
 use Rattle.skip_form.specs.declared.head.Head.{Head}
 use Rattle.skip_form.specs.declared.head.Kind.TheVariants.{Put}
 use Rattle.skip_form.specs.Spelling.{type_byte}

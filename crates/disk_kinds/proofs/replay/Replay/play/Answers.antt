@@ -1,6 +1,6 @@
 use Rattle.std.proofs.Common.{◌∙◌, ap, take, drop}
 use Rattle.std.specs.Prelude.{option_map}
-use Rattle.base_core.specs.Landing.{written_at}
+use Rattle.base_bytes.specs.Landing.{written_at}
 use Rattle.disk_kinds.proofs.ShowsNext.{shows_written, shows_pending, shows_cut, shows_cut_pending, shows_new}
 use Rattle.disk_kinds.proofs.replay.Replay.play.Goals as goal
 

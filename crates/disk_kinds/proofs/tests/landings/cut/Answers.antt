@@ -1,5 +1,5 @@
 use Rattle.std.proofs.Common.{sym, ◌∙◌, arith}
-use Rattle.base_core.proofs.Lengths.{told_offset}
+use Rattle.base_devices.proofs.Lengths.{told_offset}
 use Rattle.disk_kinds.proofs.tests.landings.cut.Goals as goal
 
 pub cut-requires : goal.cut-requires

@@ -1,5 +1,5 @@
 use Rattle.std.proofs.Common.{sym, ◌∙◌}
-use Rattle.base_core.proofs.Lengths.{told_there}
+use Rattle.base_devices.proofs.Lengths.{told_there}
 use Rattle.disk_kinds.proofs.tests.landings.sync.Goals as goal
 
 pub sync-requires : goal.sync-requires

@@ -1,5 +1,5 @@
 use Rattle.std.proofs.Common.{sym, ◌∙◌, arith}
-use Rattle.base_core.proofs.Lengths.{told_length, told_there}
+use Rattle.base_devices.proofs.Lengths.{told_length, told_there}
 use Rattle.disk_kinds.proofs.tests.memory.read_and_sync.Goals as goal
 
 pub read_at-requires : goal.read_at-requires

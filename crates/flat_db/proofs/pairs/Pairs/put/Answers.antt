@@ -1,6 +1,6 @@
 use Rattle.std.proofs.Common.{◌≡◌, ◌∙◌, ℕ, List, length, set, refl, sym, ap, subst}
 use Rattle.std.specs.List.{All, insert}
-use Rattle.base_core.specs.OrderedMap.{Map, put}
+use Rattle.base_bytes.specs.OrderedMap.{Map, put}
 use Rattle.flat_db.specs.FlatText.{canonical_text}
 use Rattle.flat_db.specs.Entries.{EndsBy, pairs_of}
 use Rattle.flat_db.specs.Kept.{IsKept, map_among}

@@ -1,5 +1,5 @@
 use Rattle.std.proofs.Common.{Some, sym, subst}
-use Rattle.base_core.proofs.Moments.{leaves_told}
+use Rattle.base_devices.proofs.Moments.{leaves_told}
 use Rattle.flat_db.specs.FlatText.{canonical_text}
 use Rattle.flat_db.specs.Kept.{map_among}
 use Rattle.flat_db.specs.Sessions.{FlatTied, session_of}

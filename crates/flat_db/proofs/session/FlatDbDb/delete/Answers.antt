@@ -1,7 +1,7 @@
 use Rattle.std.proofs.Common.{◌≡◌, ◌∙◌, List, ℕ, length, refl, sym, ap, subst}
 use Rattle.std.specs.List.{remove}
 use Rattle.std.specs.Prelude.{is_some}
-use Rattle.base_core.specs.OrderedMap.{Map, value_at, without}
+use Rattle.base_bytes.specs.OrderedMap.{Map, value_at, without}
 use Rattle.flat_db.specs.FlatText.{canonical_text}
 use Rattle.flat_db.specs.Kept.{IsKept, map_among}
 use Rattle.flat_db.specs.Places.{HasKeyAt}

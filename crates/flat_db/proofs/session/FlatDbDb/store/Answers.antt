@@ -1,5 +1,5 @@
 use Rattle.std.proofs.Common.{◌≡◌, ◌≤◌, ◌∙◌, ℕ, List, None, false, length, sym, ap, subst, arith}
-use Rattle.base_core.specs.OrderedMap.{Map, put}
+use Rattle.base_bytes.specs.OrderedMap.{Map, put}
 use Rattle.db_core.specs.Answers.{store_refusal, pair_refusal}
 use Rattle.flat_db.specs.FlatText.{canonical_text}
 use Rattle.flat_db.specs.Kept.{map_among}

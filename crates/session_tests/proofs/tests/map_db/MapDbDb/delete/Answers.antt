@@ -2,7 +2,7 @@ use Rattle.std.proofs.Common.{◌≡◌, ◌+◌, ◌∙◌, Bool, true, false, 
 use Rattle.std.specs.Prelude.{if◌then◌else◌}
 use Rattle.session_tests.specs.MemorySessions.{counting_kind}
 use Rattle.db_core.specs.declared.fault.DbFault.TheVariants.{Full}
-use Rattle.base_core.proofs.OrderedMaps.{without_absent}
+use Rattle.base_bytes.proofs.OrderedMaps.{without_absent}
 use Rattle.session_tests.proofs.Trees.{tree_some, tree_without}
 use Rattle.session_tests.proofs.MemoryLemmas.{deleted_memory, kept_memory, delete_owed}
 use Rattle.session_tests.proofs.tests.map_db.MapDbDb.delete.Goals as goal

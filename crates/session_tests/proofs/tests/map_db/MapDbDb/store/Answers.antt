@@ -1,5 +1,5 @@
 use Rattle.std.proofs.Common.{◌∙◌, ap, map, List, ℕ, refl, rules}
-use Rattle.base_core.specs.OrderedMap.{put}
+use Rattle.base_bytes.specs.OrderedMap.{put}
 use Rattle.session_tests.specs.MemorySessions.{counting_kind}
 use Rattle.session_tests.proofs.Trees.{tree_put}
 use Rattle.session_tests.proofs.MemoryLemmas.{stored_memory}

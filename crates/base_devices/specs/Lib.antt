@@ -1,0 +1,7 @@
+pub mod Causes
+pub mod CrashImages
+pub mod DiskCalls
+pub mod Frames
+pub mod HostCalls
+pub mod Time
+pub mod Untold

@@ -1,0 +1,15 @@
+//! The devices as traits, with what each call does, what a crash may leave at each moment, and when a call may fail.
+//!
+//! Read in this order; `docs/devices.md` has the model in words:
+//!   disk     a main file, which may be absent, and a new file beside it
+//!   host     a disk with standard output and standard error
+//!   reading  a file is read whole
+#![tactic(auto)]
+
+mod disk;
+mod host;
+mod reading;
+
+pub use disk::{Disk, Failed};
+pub use host::Host;
+pub use reading::{ReadFault, read_whole};
