@@ -1,4 +1,7 @@
-pub mod Answers
+pub mod Calls
 pub mod Opening
+pub mod Refusals
 pub mod Sessions
 pub mod WholeTransactions
+pub use Rattle.base_bytes.specs.OrderedMap
+pub use Rattle.base_bytes.specs.Transactions

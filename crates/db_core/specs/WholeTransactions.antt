@@ -1,42 +1,15 @@
 -- A transaction as a whole: all its changes, or none.
-use Rattle.std.specs.Prelude.{◌≡◌, ◌⊎◌, ℕ, ◌≤◌, true, false, List, [], ◌∷◌, fold, map, Option, Some, None, Result, OnOk, IfErr}
+use Rattle.std.specs.Prelude.{◌≡◌, ◌⊎◌, ℕ, ◌≤◌, true, false, List, Option, Some, None, Result, OnOk, IfErr}
 use Rattle.std.specs.Option.{option_or}
-use Rattle.base_devices.specs.Causes.{Rose}
-use Rattle.base_bytes.specs.OrderedMap.{Map}
-use Rattle.base_bytes.specs.Transactions.{Store, Remove, after_transaction}
-use Rattle.base_bytes.specs.Transactions as transactions
-use Rattle.db_core.specs.Sessions.{DbKind, DbState, begun, stored, deleted, committed, aborted}
-use Rattle.db_core.specs.Answers.{IsDiskFault, After, broken_refusal, store_refusal, delete_refusal}
+use Rattle.base_bytes.specs.Transactions.{after_transaction}
 use Rattle.base_bytes.specs.declared.change.Change.{Change}
-use Rattle.base_bytes.specs.declared.change.Change.TheVariants.{Put, Del}
+use Rattle.base_devices.specs.Causes.{Rose, FaultHasCause}
+use Rattle.base_devices.specs.CrashImages.{Image}
+use Rattle.db_core.specs.Sessions.{DbKind, DbState, DbMoment, begun, changes_after, committed, aborted}
+use Rattle.db_core.specs.Refusals.{IsDiskFault, IsAfterRefusal, broken_refusal, changes_refusal}
+use Rattle.db_core.specs.Calls.{OnDisk, KeepsInPlace, OpensCommitted}
 use Rattle.db_core.specs.declared.fault.DbFault.{DbFault}
 use Rattle.db_core.specs.declared.fault.DbFault.TheVariants.{NoMemory, DiskFault}
-
--- what a change does to a map
-abbrev pub plain : Change → transactions.Change
-plain (Put word key value) = Store key value
-plain (Del key) = Remove key
-
--- the map after these changes
-abbrev pub map_after : Map → List Change → Map
-map_after m changes = after_transaction m (map plain changes)
-
--- one change of either kind
-abbrev pub change_refusal : DbKind → DbState → Change → Option DbFault
-change_refusal kind s (Put word key value) = store_refusal kind s word key value
-change_refusal kind s (Del key) = delete_refusal kind s key
-
-abbrev pub change_after : DbKind → DbState → Change → DbState
-change_after kind s (Put word key value) = stored kind s word key value
-change_after kind s (Del key) = deleted kind s key
-
--- a list of changes, and the first refusal that one of them owes
-abbrev pub changes_after : DbKind → DbState → List Change → DbState
-changes_after kind s changes = fold (change_after kind) s changes
-
-abbrev pub changes_refusal : DbKind → DbState → List Change → Option DbFault
-changes_refusal kind s [] = None
-changes_refusal kind s (change ∷ rest) = option_or (change_refusal kind s change) (changes_refusal kind (change_after kind s change) rest)
 
 -- in a transaction over the same committed map
 pub record InTransaction (old new : DbState) : Type 0 where
@@ -50,23 +23,22 @@ MayEnd owed DiskFault = Unit {0}
 MayEnd owed fault = owed ≡ Some fault
 
 -- after a refusal within a list of changes: the session is broken by the disk's fault, or still in the transaction
-abbrev pub Left : DbFault → DbState → DbState → Type 0
-Left fault old new = (IsDiskFault fault × (new.is_broken ≡ true) × (new.in_transaction ≡ false)) ⊎ ((IsDiskFault fault → ⊥) × InTransaction old new)
+abbrev pub IsAfterSomeChanges : DbFault → DbState → DbState → Type 0
+IsAfterSomeChanges fault old new =
+    (IsDiskFault fault × (new.is_broken ≡ true) × (new.in_transaction ≡ false)) ⊎ ((IsDiskFault fault → ⊥) × InTransaction old new)
 
--- what a list of changes answers: after a refusal some of them are made
-pub record AnswersSome {T : Type 0} (owed : Option DbFault) (old new wanted : DbState) (result : Result T DbFault) : Type 0 where
-  pub ok : OnOk result (owed ≡ None)
-  pub done : OnOk result (new ≡ wanted)
-  pub made : OnOk result (InTransaction old new)
-  pub refused : IfErr result (λ fault. MayEnd owed fault)
-  pub after : IfErr result (λ fault. Left fault old new)
+-- What a list of changes in a transaction does. After a refusal some of them are made.
+pub record MakesSome {T : Type 0} (kind : DbKind) (changes : List Change) (old new : DbMoment) (result : Result T DbFault) : Type 0 where
+  pub ok : OnOk result (changes_refusal kind old.session changes ≡ None)
+  pub done : OnOk result (new.session ≡ changes_after kind old.session changes)
+  pub made : OnOk result (InTransaction old.session new.session)
+  pub refused : IfErr result (λ fault. MayEnd (changes_refusal kind old.session changes) fault)
+  pub after : IfErr result (λ fault. IsAfterSomeChanges fault old.session new.session)
+  pub disk : OnDisk old.session (OpensCommitted kind old.session) old.disk new.disk
+  pub in_place : KeepsInPlace kind old.disk new.disk
+  pub cause : FaultHasCause IsDiskFault old.disk.faults new.disk.faults result
 
--- what a whole transaction answers: after a refusal the session is as before, or broken by the disk's fault
-pub record AnswersWhole {T : Type 0} (owed : Option DbFault) (old new wanted : DbState) (result : Result T DbFault) : Type 0 where
-  pub ok : OnOk result (owed ≡ None)
-  pub done : OnOk result (new ≡ wanted)
-  pub refused : IfErr result (λ fault. MayEnd owed fault)
-  pub after : IfErr result (λ fault. After fault old new)
+-- ---- a transaction as a whole
 
 abbrev pub run_refusal : DbKind → DbState → List Change → Option DbFault
 run_refusal kind s changes = option_or (broken_refusal s) (changes_refusal kind (begun s) changes)
@@ -74,8 +46,28 @@ run_refusal kind s changes = option_or (broken_refusal s) (changes_refusal kind 
 abbrev pub run_after : DbKind → DbState → List Change → DbState
 run_after kind s changes = committed kind (changes_after kind (begun s) changes)
 
+-- the image opens to the map before the transaction, or to the one after all of it
+abbrev pub OpensWhole : DbKind → List Change → DbState → Image → Type 0
+OpensWhole kind changes s c = kind.opens c s.committed ⊎ kind.opens c (after_transaction s.seen changes)
+
+-- What a whole transaction does. After a refusal the session is as before, or broken by the disk's fault.
+pub record MakesWhole {T : Type 0} (kind : DbKind) (changes : List Change) (old new : DbMoment) (result : Result T DbFault) : Type 0 where
+  pub ok : OnOk result (run_refusal kind old.session changes ≡ None)
+  pub done : OnOk result (new.session ≡ run_after kind old.session changes)
+  pub refused : IfErr result (λ fault. MayEnd (run_refusal kind old.session changes) fault)
+  pub after : IfErr result (λ fault. IsAfterRefusal fault old.session new.session)
+  -- at each moment all of it or nothing, and where it was refused nothing
+  pub disk : OnDisk old.session (OpensWhole kind changes old.session) old.disk new.disk
+  pub given_up : IfErr result (λ fault. IsDiskFault fault ⊎ OnDisk old.session (OpensCommitted kind old.session) old.disk new.disk)
+  pub in_place : KeepsInPlace kind old.disk new.disk
+  pub cause : FaultHasCause IsDiskFault old.disk.faults new.disk.faults result
+
 -- what becomes of a session that goes back to its committed map after a refusal
-pub record GivesUp (fault answer : DbFault) (old new : DbState) (before now : ℕ) : Type 0 where
-  pub broken : old.is_broken ≡ true → (answer ≡ fault) × (new ≡ old) × (now ≡ before)
-  pub back : old.is_broken ≡ false → ((answer ≡ fault) × (new ≡ aborted old) × (now ≡ before)) ⊎ ((answer ≡ DiskFault) × Rose before now × (new.is_broken ≡ true) × (new.in_transaction ≡ false))
-  pub later : before ≤ now
+pub record GivesUp (kind : DbKind) (fault answer : DbFault) (old new : DbMoment) : Type 0 where
+  pub broken : old.session.is_broken ≡ true → (answer ≡ fault) × (new.session ≡ old.session) × (new.disk.faults ≡ old.disk.faults)
+  pub back : old.session.is_broken ≡ false
+      → ((answer ≡ fault) × (new.session ≡ aborted old.session) × (new.disk.faults ≡ old.disk.faults))
+      ⊎ ((answer ≡ DiskFault) × Rose old.disk.faults new.disk.faults × (new.session.is_broken ≡ true) × (new.session.in_transaction ≡ false))
+  pub disk : OnDisk old.session (OpensCommitted kind old.session) old.disk new.disk
+  pub in_place : KeepsInPlace kind old.disk new.disk
+  pub later : old.disk.faults ≤ new.disk.faults

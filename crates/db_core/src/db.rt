@@ -1,21 +1,27 @@
 // A session over a disk.
-ghost use Rattle.std.specs.Prelude.{◌≡◌, ◌⊎◌, true, false, IsErrOf, OnOk, IfOk, IfErr, is_some, length};
+ghost use Rattle.std.specs.Prelude.{◌≡◌, ℕ, true, false, IsErrOf, OnOk, IfOk, is_some, length};
 ghost use Rattle.std.specs.Option.{option_copied};
+ghost use Rattle.base_bytes.specs.OrderedMap.{Map, IsDbMap, value_at, first_from, first_above, pairs_from};
+ghost use Rattle.base_bytes.specs.declared.change.Change.TheVariants.{Put, Del};
 ghost use Rattle.base_devices.specs.CrashImages.{Image, LeavesSame};
-ghost use Rattle.base_bytes.specs.OrderedMap.{value_at};
-ghost use Rattle.db_core.specs.Sessions.{DbKind, DbState, begun, stored, deleted, committed, aborted,};
-ghost use Rattle.db_core.specs.Answers.{Answers, HasDbCause, OnDisk, IsDiskFault, pair_of, broken_refusal, store_refusal, delete_refusal};
+ghost use Rattle.db_core.specs.Calls.{MakesChange, Commits, Aborts, StepsOver};
+ghost use Rattle.db_core.specs.Refusals.{Answers, LeavesDisk, pair_of, broken_refusal};
+ghost use Rattle.db_core.specs.Sessions.{DbKind, DbState, over, begun, aborted};
 ghost use Rattle.db_core.specs.declared.fault.DbFault.TheVariants.{NoMemory, DiskFault};
 
-use crate::DbFault;
+use crate::{Cursor, DbFault, Step};
 use base_bytes::Pair;
 use base_devices::Disk;
 
-/// An open database: the committed map, which is on the disk, and in a transaction the map seen.
+/// An open database over a disk: an ordered map that is seen, and a committed one.
 ///
-/// After a call that answers [`DbFault::DiskFault`] the session is broken: `in_transaction` is false, every
-/// change answers `Broken` and leaves the disk alone, and nothing may be read. After any other refusal the
-/// session and the disk are as before. `docs/guarantees.md` says what a backend promises.
+/// The map seen is changed within a transaction, which ends by `commit` or by `abort`. Wherever the disk stops, a
+/// crash leaves a file of the committed map, or within `commit` of that or the map seen. After a fault of the disk
+/// the session is broken: each later call that can be refused answers `Broken`, and the database is to be opened
+/// again. No read takes memory; `begin`, `store` and `delete` may run out of it, and `commit` and `abort` cannot.
+///
+/// A refusal is answered exactly where its sentence holds, in the order of `DbFault`, and leaves session and disk
+/// as before. `docs/guarantees.md` says what a backend promises.
 pub trait Db<D: Disk> {
     // What the backend makes of files and sizes.
     ghost kind: { DbKind };
@@ -23,10 +29,13 @@ pub trait Db<D: Disk> {
     // The session's maps, loads and flags.
     ghost state: { Self → DbState };
 
-    // The session stands for what is on the disk. For a broken session the tie says nothing.
+    // The session stands for what is on the disk. Of a broken session it says nothing.
     ghost tie: { Self → D → Type 0 };
 
-    /// Whether a transaction stands. In a broken session none does.
+    // At this place of a walk over the map seen these pairs are left.
+    ghost walks: { Self → ℕ → Map → Type 0 };
+
+    /// Whether a transaction is open. In a broken session none is.
     fn in_transaction(&self) -> bool
         ensures { result ≡ (state self.now).in_transaction };
 
@@ -34,10 +43,12 @@ pub trait Db<D: Disk> {
     fn broken(&self) -> bool
         ensures { result ≡ (state self.now).is_broken };
 
-    /// How many pairs the map seen has.
+    /// How many pairs the map seen has. The keys of both maps rise strictly, and none is empty.
     fn count(&self) -> u64
         requires { (state self.now).is_broken ≡ false }
-        ensures { result ≡ length (state self.now).seen };
+        ensures count { result ≡ length (state self.now).seen }
+        ensures seen { IsDbMap (state self.now).seen }
+        ensures committed { IsDbMap (state self.now).committed };
 
     /// The value of the key in the map seen.
     fn fetch(&self, key: &[u8]) -> Option<&[u8]>
@@ -54,11 +65,24 @@ pub trait Db<D: Disk> {
         requires { (state self.now).is_broken ≡ false }
         ensures { pair_of result ≡ first_above (state self.now).seen key.now };
 
+    /// Begins a walk: the place of the first pair of the map seen whose key is not below this one.
+    fn walk_from(&self, key: &[u8]) -> Cursor
+        requires { (state self.now).is_broken ≡ false }
+        ensures { walks self.now result.place (pairs_from (state self.now).seen key.now) };
+
+    /// The pair at a place of a walk, and the next place; None at the end of the map. It does not search.
+    fn step(&self, cursor: Cursor) -> Option<Step<'_>>
+        requires sound { (state self.now).is_broken ≡ false }
+        requires at { (left : Map) × walks self.now cursor.place left }
+        ensures { (left : Map) → walks self.now cursor.place left
+            → StepsOver (walks self.now) left result };
+
     /// Begins a transaction. It answers `Broken` and `NoMemory` besides Ok.
     fn begin(&mut self) -> Result<(), DbFault>
         requires { (state self.old).is_broken ≡ false → (state self.old).in_transaction ≡ false }
-        ensures answer { Answers (broken_refusal (state self.old)) (state self.old) (state self.new) (begun (state self.old)) result }
-        ensures no_fault { IsErrOf result DiskFault → ⊥ }
+        ensures answer { let s = state self.old in
+            Answers (broken_refusal s) s (state self.new) (begun s) result }
+        ensures no_fault { ¬ IsErrOf result DiskFault }
         ensures tied { (d : D) → tie self.old d → tie self.new d };
 
     /// Puts the pair into the map seen. All faults are possible answers. The word chooses how the backend lays
@@ -66,10 +90,10 @@ pub trait Db<D: Disk> {
     fn store(&mut self, disk: &mut D, word: u32, key: &[u8], value: &[u8]) -> Result<(), DbFault>
         requires within { (state self.old).is_broken ≡ false → (state self.old).in_transaction ≡ true }
         requires tied { tie self.old disk.old }
-        ensures answer { Answers (store_refusal kind (state self.old) word key.now value.now) (state self.old) (state self.new) (stored kind (state self.old) word key.now value.now) result }
-        ensures unharmed { IfErr result (λ fault. IsDiskFault fault ⊎ (disk.new ≡ disk.old)) }
-        ensures disk { OnDisk kind (state self.old) (λ c. kind.opens c (state self.old).committed) (D.state disk.old) (D.state disk.new) }
-        ensures cause { HasDbCause (D.state disk.old).faults (D.state disk.new).faults result }
+        ensures change { MakesChange kind (Put word key.now value.now)
+            (over (D.state disk.old) (state self.old)) (over (D.state disk.new) (state self.new)) result }
+        ensures unharmed { LeavesDisk result disk.old disk.new }
+        ensures idle { kind.works_in_place ≡ false → disk.new ≡ disk.old }
         ensures tied { tie self.new disk.new }
         ensures rest { D.disk_rest disk.old disk.new };
 
@@ -80,11 +104,11 @@ pub trait Db<D: Disk> {
         requires within { (state self.old).is_broken ≡ false → (state self.old).in_transaction ≡ true }
         requires tied { tie self.old disk.old }
         ensures was_there { IfOk result (λ was. was ≡ is_some (value_at (state self.old).seen key.now)) }
-        ensures answer { Answers (delete_refusal kind (state self.old) key.now) (state self.old) (state self.new) (deleted kind (state self.old) key.now) result }
-        ensures unharmed { IfErr result (λ fault. IsDiskFault fault ⊎ (disk.new ≡ disk.old)) }
+        ensures change { MakesChange kind (Del key.now)
+            (over (D.state disk.old) (state self.old)) (over (D.state disk.new) (state self.new)) result }
+        ensures unharmed { LeavesDisk result disk.old disk.new }
         ensures untouched { IfOk result (λ was. was ≡ false → disk.new ≡ disk.old) }
-        ensures disk { OnDisk kind (state self.old) (λ c. kind.opens c (state self.old).committed) (D.state disk.old) (D.state disk.new) }
-        ensures cause { HasDbCause (D.state disk.old).faults (D.state disk.new).faults result }
+        ensures idle { kind.works_in_place ≡ false → disk.new ≡ disk.old }
         ensures tied { tie self.new disk.new }
         ensures rest { D.disk_rest disk.old disk.new };
 
@@ -93,12 +117,11 @@ pub trait Db<D: Disk> {
     fn commit(&mut self, disk: &mut D) -> Result<(), DbFault>
         requires within { (state self.old).is_broken ≡ false → (state self.old).in_transaction ≡ true }
         requires tied { tie self.old disk.old }
-        ensures answer { Answers (broken_refusal (state self.old)) (state self.old) (state self.new) (committed kind (state self.old)) result }
-        ensures has_memory { IsErrOf result NoMemory → ⊥ }
-        ensures unharmed { IfErr result (λ fault. IsDiskFault fault ⊎ (disk.new ≡ disk.old)) }
+        ensures commit { Commits kind
+            (over (D.state disk.old) (state self.old)) (over (D.state disk.new) (state self.new)) result }
+        ensures has_memory { ¬ IsErrOf result NoMemory }
+        ensures unharmed { LeavesDisk result disk.old disk.new }
         ensures untouched { (state self.old).has_changed ≡ false → OnOk result (disk.new ≡ disk.old) }
-        ensures disk { OnDisk kind (state self.old) (λ c. kind.opens c (state self.old).committed ⊎ kind.opens c (state self.old).seen) (D.state disk.old) (D.state disk.new) }
-        ensures cause { HasDbCause (D.state disk.old).faults (D.state disk.new).faults result }
         ensures tied { tie self.new disk.new }
         ensures rest { D.disk_rest disk.old disk.new };
 
@@ -106,23 +129,30 @@ pub trait Db<D: Disk> {
     fn abort(&mut self, disk: &mut D) -> Result<(), DbFault>
         requires within { (state self.old).is_broken ≡ false → (state self.old).in_transaction ≡ true }
         requires tied { tie self.old disk.old }
-        ensures answer { Answers (broken_refusal (state self.old)) (state self.old) (state self.new) (aborted (state self.old)) result }
-        ensures has_memory { IsErrOf result NoMemory → ⊥ }
-        ensures unharmed { IfErr result (λ fault. IsDiskFault fault ⊎ (disk.new ≡ disk.old)) }
-        ensures disk { OnDisk kind (state self.old) (λ c. kind.opens c (state self.old).committed) (D.state disk.old) (D.state disk.new) }
-        ensures cause { HasDbCause (D.state disk.old).faults (D.state disk.new).faults result }
+        ensures abort { Aborts kind
+            (over (D.state disk.old) (state self.old)) (over (D.state disk.new) (state self.new)) result }
+        ensures has_memory { ¬ IsErrOf result NoMemory }
+        ensures unharmed { LeavesDisk result disk.old disk.new }
+        ensures idle { kind.works_in_place ≡ false → disk.new ≡ disk.old }
         ensures tied { tie self.new disk.new }
         ensures rest { D.disk_rest disk.old disk.new };
 
     // The tie rests on what the disk reads and may leave.
-    ghost tie_rests: { (b : Self) (old new : D) → (D.state new).reads ≡ (D.state old).reads → LeavesSame (D.state old) (D.state new) → tie b old → tie b new };
+    ghost tie_rests: { (b : Self) (old new : D) → (D.state new).reads ≡ (D.state old).reads
+        → LeavesSame (D.state old) (D.state new) → tie b old → tie b new };
 
     // Each image that may be left opens to the committed map.
-    ghost tie_opens: { (b : Self) (d : D) → (state b).is_broken ≡ false → tie b d → (c : Image) → (D.state d).leaves c → kind.opens c (state b).committed };
+    ghost tie_opens: { (b : Self) (d : D) → (state b).is_broken ≡ false → tie b d
+        → (c : Image) → (D.state d).leaves c → kind.opens c (state b).committed };
+
+    // A broken session is tied to every disk: nothing is asked of it.
+    ghost broken_tied: { (b : Self) (d : D) → (state b).is_broken ≡ true → tie b d };
 
     // Outside a transaction both maps and both loads are the same.
-    ghost outside: { (b : Self) → (state b).is_broken ≡ false → (state b).in_transaction ≡ false → aborted (state b) ≡ state b };
+    ghost outside: { (b : Self) → (state b).is_broken ≡ false → (state b).in_transaction ≡ false
+        → aborted (state b) ≡ state b };
 
-    // No transaction stands in a broken session.
-    ghost broken_outside: { (b : Self) → (state b).is_broken ≡ true → (state b).in_transaction ≡ false };
+    // No transaction is open in a broken session.
+    ghost broken_outside: { (b : Self) → (state b).is_broken ≡ true
+        → (state b).in_transaction ≡ false };
 }

@@ -1,5 +1,8 @@
-// Why a call on a database was refused.
-use base_bytes::Damage;
+// Why a call of a session was refused.
+ghost use Rattle.std.specs.Prelude.{◌≡◌};
+ghost use Rattle.db_core.specs.Refusals.{pair_refusal};
+
+use base_bytes::{KEY_LIMIT, VALUE_LIMIT};
 
 /// Why a call of a session was refused, in the order in which the causes are tested.
 #[derive(Clone, Copy, Debug, PartialEq, Eq)]
@@ -20,17 +23,21 @@ pub enum DbFault {
     DiskFault,
 }
 
-/// Why a database was not opened, in the order in which the causes are tested.
-#[derive(Clone, Copy, Debug, PartialEq, Eq)]
-pub enum OpenFault {
-    /// There is no main file.
-    Absent,
-    /// It has so many bytes, more than it may.
-    TooBig { size: u64 },
-    /// Memory ran out.
-    NoMemory,
-    /// The disk failed.
-    DiskFault,
-    /// The file's first flaw.
-    Damaged(Damage),
+/// Why a pair may not be stored, whatever the backend: its key has no byte, or more than `KEY_LIMIT`, or its value
+/// has more than `VALUE_LIMIT`; the first of these. None where its sizes are right.
+pub fn pair_fault(key: &[u8], value: &[u8]) -> Option<DbFault>
+    ensures { result ≡ pair_refusal key.now value.now }
+{
+    if key.is_empty() {
+        return Some(DbFault::KeyEmpty);
+    }
+    let length = key.len() as u64;
+    if length > KEY_LIMIT {
+        return Some(DbFault::KeyTooLong { length });
+    }
+    let length = value.len() as u64;
+    if length > VALUE_LIMIT {
+        return Some(DbFault::ValueTooLong { length });
+    }
+    None
 }

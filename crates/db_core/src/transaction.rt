@@ -1,19 +1,23 @@
 // Changes, and whole transactions of them.
-ghost use Rattle.std.specs.Prelude.{◌≡◌, ◌⊎◌, true, false, IfErr};
-ghost use Rattle.db_core.specs.Answers.{Answers, HasDbCause, OnDisk, IsDiskFault};
-ghost use Rattle.db_core.specs.WholeTransactions.{AnswersSome, AnswersWhole, GivesUp, map_after, change_refusal, change_after, changes_after, changes_refusal, run_refusal, run_after};
+ghost use Rattle.std.specs.Prelude.{◌≡◌, true, false, Err, IfErr, OnErr};
+ghost use Rattle.base_bytes.specs.Transactions.{after_transaction};
+ghost use Rattle.db_core.specs.Calls.{MakesChange};
+ghost use Rattle.db_core.specs.Refusals.{LeavesDisk};
+ghost use Rattle.db_core.specs.Sessions.{over};
+ghost use Rattle.db_core.specs.WholeTransactions.{MakesSome, MakesWhole, GivesUp};
+ghost use Rattle.db_core.specs.declared.fault.DbFault.TheVariants.{Broken};
 
 use crate::{Change, Db, DbFault};
 use base_devices::Disk;
 
-// Makes one change in the transaction that stands.
+// Makes one change in the open transaction.
 fn apply<D: Disk, B: Db<D>>(db: &mut B, disk: &mut D, change: &Change) -> Result<(), DbFault>
     requires within { (B.state db.old).is_broken ≡ false → (B.state db.old).in_transaction ≡ true }
     requires tied { B.tie db.old disk.old }
-    ensures answer { Answers (change_refusal B.kind (B.state db.old) change.now) (B.state db.old) (B.state db.new) (change_after B.kind (B.state db.old) change.now) result }
-    ensures unharmed { IfErr result (λ fault. IsDiskFault fault ⊎ (disk.new ≡ disk.old)) }
-    ensures disk { OnDisk B.kind (B.state db.old) (λ c. B.kind.opens c (B.state db.old).committed) (D.state disk.old) (D.state disk.new) }
-    ensures cause { HasDbCause (D.state disk.old).faults (D.state disk.new).faults result }
+    ensures change { MakesChange B.kind change.now
+        (over (D.state disk.old) (B.state db.old)) (over (D.state disk.new) (B.state db.new)) result }
+    ensures unharmed { LeavesDisk result disk.old disk.new }
+    ensures idle { B.kind.works_in_place ≡ false → disk.new ≡ disk.old }
     ensures tied { B.tie db.new disk.new }
     ensures rest { D.disk_rest disk.old disk.new }
 {
@@ -26,14 +30,14 @@ fn apply<D: Disk, B: Db<D>>(db: &mut B, disk: &mut D, change: &Change) -> Result
     }
 }
 
-// Makes all changes in the transaction that stands, up to the first that is refused.
+// Makes all changes in the open transaction, up to the first that is refused.
 fn apply_all<D: Disk, B: Db<D>>(db: &mut B, disk: &mut D, changes: &[Change]) -> Result<(), DbFault>
     requires sound { (B.state db.old).is_broken ≡ false }
     requires within { (B.state db.old).in_transaction ≡ true }
     requires tied { B.tie db.old disk.old }
-    ensures answer { AnswersSome (changes_refusal B.kind (B.state db.old) changes.now) (B.state db.old) (B.state db.new) (changes_after B.kind (B.state db.old) changes.now) result }
-    ensures disk { OnDisk B.kind (B.state db.old) (λ c. B.kind.opens c (B.state db.old).committed) (D.state disk.old) (D.state disk.new) }
-    ensures cause { HasDbCause (D.state disk.old).faults (D.state disk.new).faults result }
+    ensures some { MakesSome B.kind changes.now
+        (over (D.state disk.old) (B.state db.old)) (over (D.state disk.new) (B.state db.new)) result }
+    ensures idle { B.kind.works_in_place ≡ false → disk.new ≡ disk.old }
     ensures tied { B.tie db.new disk.new }
     ensures rest { D.disk_rest disk.old disk.new }
 {
@@ -49,8 +53,10 @@ fn apply_all<D: Disk, B: Db<D>>(db: &mut B, disk: &mut D, changes: &[Change]) ->
 fn give_up<D: Disk, B: Db<D>>(db: &mut B, disk: &mut D, fault: DbFault) -> DbFault
     requires within { (B.state db.old).is_broken ≡ false → (B.state db.old).in_transaction ≡ true }
     requires tied { B.tie db.old disk.old }
-    ensures answer { GivesUp fault result (B.state db.old) (B.state db.new) (D.state disk.old).faults (D.state disk.new).faults }
-    ensures disk { (((B.state db.old).is_broken ≡ true) × (disk.new ≡ disk.old)) ⊎ (((B.state db.old).is_broken ≡ false) × OnDisk B.kind (B.state db.old) (λ c. B.kind.opens c (B.state db.old).committed) (D.state disk.old) (D.state disk.new)) }
+    ensures gives_up { GivesUp B.kind fault result
+        (over (D.state disk.old) (B.state db.old)) (over (D.state disk.new) (B.state db.new)) }
+    ensures broken { (B.state db.old).is_broken ≡ true → disk.new ≡ disk.old }
+    ensures idle { B.kind.works_in_place ≡ false → disk.new ≡ disk.old }
     ensures tied { B.tie db.new disk.new }
     ensures rest { D.disk_rest disk.old disk.new }
 {
@@ -75,10 +81,14 @@ pub fn run_changes<D: Disk, B: Db<D>>(
 ) -> Result<(), DbFault>
     requires closed { (B.state db.old).is_broken ≡ false → (B.state db.old).in_transaction ≡ false }
     requires tied { B.tie db.old disk.old }
-    ensures answer { AnswersWhole (run_refusal B.kind (B.state db.old) changes.now) (B.state db.old) (B.state db.new) (run_after B.kind (B.state db.old) changes.now) result }
-    ensures disk { OnDisk B.kind (B.state db.old) (λ c. B.kind.opens c (B.state db.old).committed ⊎ B.kind.opens c (map_after (B.state db.old).seen changes.now)) (D.state disk.old) (D.state disk.new) }
-    ensures given_up { IfErr result (λ fault. IsDiskFault fault ⊎ OnDisk B.kind (B.state db.old) (λ c. B.kind.opens c (B.state db.old).committed) (D.state disk.old) (D.state disk.new)) }
-    ensures cause { HasDbCause (D.state disk.old).faults (D.state disk.new).faults result }
+    ensures whole { MakesWhole B.kind changes.now
+        (over (D.state disk.old) (B.state db.old)) (over (D.state disk.new) (B.state db.new)) result }
+
+    // A broken session answers so and leaves the disk alone; so does a refusal, where files are rewritten whole.
+    ensures broken { (B.state db.old).is_broken ≡ true
+        → (result ≡ Err Broken) × (disk.new ≡ disk.old) }
+    ensures idle { B.kind.works_in_place ≡ false → LeavesDisk result disk.old disk.new }
+
     ensures tied { B.tie db.new disk.new }
     ensures rest { D.disk_rest disk.old disk.new }
 {
