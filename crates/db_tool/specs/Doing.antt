@@ -29,7 +29,7 @@ during disk streams session = record { session = session; host = moment disk str
 
 -- the stated end was reached
 pub record IsStated (task : Task) (old new : ToolMoment) (note : Note) : Type 0 where
-  pub note : note ≡ task.note
+  pub ends : note ≡ task.note
   pub told : new.host.streams.told ≡ told_with old.host.streams.told task.output
   pub session : new.session ≡ task.end
 
@@ -92,5 +92,5 @@ pub record ChangesOnce (kind : DbKind) (change : Change) (old new : ToolMoment) 
   pub result : Result (Unit {0}) DbFault
   pub whole : MakesWhole kind (change ∷ []) (over old.host.disk old.session) (over new.host.disk new.session) result
   pub idle : kind.works_in_place ≡ false → IfErr result (λ fault. IsDiskFault fault ⊎ KeepsCounts old.host.disk new.host.disk)
-  pub note : note ≡ note_of_whole result
+  pub says : note ≡ note_of_whole result
   pub streams : new.host.streams ≡ old.host.streams

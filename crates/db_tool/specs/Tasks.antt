@@ -24,6 +24,9 @@ pub record Given : Type 0 where
   -- standard input
   pub script : List ℕ
 
+abbrev pub given : Stream → List ℕ → Given
+given words script = record { words = words; script = script }
+
 -- What is stated of an action over a session at rest. It is so where no device fails and memory does not run out.
 pub record Task : Type 1 where
   -- the transactions that it commits, in order
@@ -95,16 +98,20 @@ lacks_key action = false
 
 -- the task of an action that has a key where it needs one
 abbrev pub task_with_key : DbKind → DbState → Given → Action → Task
-task_with_key kind s given (Show prefix) = printing s (shown (with_prefix s.seen prefix)) Done
-task_with_key kind s given (Get key) = printing s (value_line (value_at s.seen key)) (if is_some (value_at s.seen key) then Done else Answer)
-task_with_key kind s given (Set key value) = changing kind s (Put (next_u32 given.words).0 key value) 1
-task_with_key kind s given (Delete key) = changing kind s (Del key) 0
-task_with_key kind s given Consistent = printing s (codes "consistent\n") Done
-task_with_key kind s given action = printing s [] Done
+task_with_key kind s g (Show prefix) = printing s (shown (with_prefix s.seen prefix)) Done
+task_with_key kind s g (Get key) = printing s (value_line (value_at s.seen key)) (if is_some (value_at s.seen key) then Done else Answer)
+task_with_key kind s g (Set key value) = changing kind s (Put (next_u32 g.words).0 key value) 1
+task_with_key kind s g (Delete key) = changing kind s (Del key) 0
+task_with_key kind s g Consistent = printing s (codes "consistent\n") Done
+task_with_key kind s g action = printing s [] Done
 
--- an empty key is refused as line 1
+-- an action that lacks its key is refused as line 1
+abbrev pub task_if : Bool → DbKind → DbState → Given → Action → Task
+task_if true kind s g action = printing s [] (BadLine 1)
+task_if false kind s g action = task_with_key kind s g action
+
 abbrev pub task_of : DbKind → DbState → Given → Action → Task
-task_of kind s given action = if lacks_key action then printing s [] (BadLine 1) else task_with_key kind s given action
+task_of kind s g action = task_if (lacks_key action) kind s g action
 
 -- the actions that are done over an open database, so far
 abbrev pub CanAct : Action → Type 0

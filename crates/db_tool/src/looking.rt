@@ -8,7 +8,7 @@ ghost use Rattle.db_tool.specs.Printing.{Prints, PrintsAll, holding, value_line,
 
 use crate::notes::HOST_FAULT;
 use crate::printing::{flush, print_part};
-use base_bytes::{Pair, Piece};
+use base_bytes::Piece;
 use base_devices::{Failed, Host};
 use base_notes::Note;
 use db_core::Db;
@@ -50,16 +50,21 @@ pub(crate) fn get<H: Host, B: Db<H>>(alloc: Global, key: &[u8], db: &B, host: &m
 }
 
 // Prints a pair: its key, TAB, its value and a line feed.
-fn print_pair<H: Host>(host: &mut H, pair: Pair<'_>, output: &mut Piece) -> Result<(), Failed>
-    ensures prints { Prints (pair_text (pair.key.now, pair.value.now))
+fn print_pair<H: Host>(
+    host: &mut H,
+    key: &[u8],
+    value: &[u8],
+    output: &mut Piece,
+) -> Result<(), Failed>
+    ensures prints { Prints (pair_text (key.now, value.now))
         (holding output.old (H.state host.old) (H.streams host.old))
         (holding output.new (H.state host.new) (H.streams host.new)) result }
     ensures rest { H.host_rest host.old host.new }
 {
-    if let Err(fault) = print_part(host, pair.key, b'\t', output) {
+    if let Err(fault) = print_part(host, key, b'\t', output) {
         return Err(fault);
     }
-    print_part(host, pair.value, b'\n', output)
+    print_part(host, value, b'\n', output)
 }
 
 // Prints the pairs whose key has the prefix: one search, and then from each pair to the next.
@@ -83,7 +88,7 @@ fn print_pairs<H: Host, B: Db<H>>(
         if !step.pair.key.starts_with(prefix) {
             break;
         }
-        if let Err(fault) = print_pair(host, step.pair, output) {
+        if let Err(fault) = print_pair(host, step.pair.key, step.pair.value, output) {
             return Err(fault);
         }
         cursor = step.next;
