@@ -3,12 +3,12 @@
 use Rattle.std.specs.Prelude.{ℕ, Bool, true, false, List, [], ◌∷◌, Option, None, Some, codes, if◌then◌else◌, map, option_and_then}
 use Rattle.std.specs.Option.{option_map}
 use Rattle.std.specs.Str.{bytes_eq}
-use Rattle.base_core.specs.declared.action.Backend.{Backend}
-use Rattle.base_core.specs.declared.action.Backend.TheVariants.{Twoskip, Flat}
-use Rattle.base_core.specs.declared.action.Action.{Action}
-use Rattle.base_core.specs.declared.action.Action.TheVariants.{Show, Get, Set, Delete, Consistent, Repack, Batch, Exercise}
-use Rattle.base_core.specs.declared.action.Options.{Options}
-use Rattle.clap.specs.Walk.{Row, first_of}
+use Rattle.base_notes.specs.declared.action.Backend.{Backend}
+use Rattle.base_notes.specs.declared.action.Backend.TheVariants.{Twoskip, Flat}
+use Rattle.base_notes.specs.declared.action.Action.{Action}
+use Rattle.base_notes.specs.declared.action.Action.TheVariants.{Show, Get, Set, Delete, Consistent, Repack, Batch, Exercise}
+use Rattle.base_notes.specs.declared.action.Options.{Options}
+use Rattle.clap.specs.Walk.{Row, all_of, first_of}
 use Rattle.tool_words.specs.Commands.{dbtool_app, convert_app, reconstruct_app, unexpunge_app, purge_app, check_app}
 use Rattle.tool_words.specs.Numbers.{number_of, rounds_of, uid_of}
 use Rattle.tool_words.specs.Reading.{has_flag, rest_of, rows_by}
@@ -87,15 +87,15 @@ uids_of [] = Some []
 uids_of (word ∷ words) = option_and_then (λ uid. option_map (λ uids. uid ∷ uids) (uids_of words)) (uid_of word)
 
 -- just one of `-l`, `-a` and `-u`, and uids with `-u` alone
-abbrev pub what_of : Bool → Bool → Bool → List (List ℕ) → Option What
-what_of true false false [] = Some what.List
-what_of false true false [] = Some what.All
-what_of false false true (word ∷ words) = option_map what.Uids (uids_of (word ∷ words))
+abbrev pub what_of : Bool → Bool → Bool → Option (List (List ℕ)) → Option What
+what_of true false false None = Some what.List
+what_of false true false None = Some what.All
+what_of false false true (Some words) = option_map what.Uids (uids_of words)
 what_of list all by_uid words = None
 
 abbrev pub what_in : List Row → Option What
 what_in rows = what_of (has_flag (codes "list") rows) (has_flag (codes "all") rows)
-    (has_flag (codes "by_uid") rows) (rest_of (codes "uids") rows)
+    (has_flag (codes "by_uid") rows) (all_of (codes "uids") rows)
 
 abbrev pub unexpunge_job : Option (List ℕ) → Option What → Option Job
 unexpunge_job (Some folder) (Some what) = Some (Unexpunge folder what)

@@ -1,6 +1,6 @@
 // Each tool's flags and positionals, as a command of clap.
-ghost use Rattle.std.specs.Prelude.{◌≡◌, IfOk, [], ◌∷◌, false};
-ghost use Rattle.clap.specs.Words.{app_of, rule_of};
+ghost use Rattle.std.specs.Prelude.{◌≡◌, IfOk, [], ◌∷◌, false, true};
+ghost use Rattle.clap.specs.Words.{app_of, is_simple_and_free, rule_of};
 ghost use Rattle.tool_words.specs.Commands.{command_of, flag_of, option_of, word_of};
 ghost use Rattle.tool_words.specs.Commands.{dbtool_app, convert_app, reconstruct_app};
 ghost use Rattle.tool_words.specs.Commands.{unexpunge_app, purge_app, check_app};
@@ -9,38 +9,39 @@ use clap::{Arg, ArgAction, Command};
 use std::alloc::{AllocError, Global};
 
 // A command with no arguments, not even `--help`.
-fn bare(alloc: Global, name: &'static str) -> Command<'static>
-    ensures { app_of result ≡ command_of name.now [] }
+fn bare<'a>(alloc: Global, name: &'a str) -> Command<'a>
+    ensures { app_of result ≡ command_of name.entry.now [] }
 {
     Command::new(alloc, name).disable_help_flag(true)
 }
 
-fn flag(alloc: Global, id: &'static str, letter: char) -> Arg<'static>
-    ensures rule { rule_of result ≡ flag_of id.now (letter ∷ []) }
+fn flag<'a>(alloc: Global, id: &'a str, letter: char) -> Arg<'a>
+    ensures rule { rule_of result ≡ flag_of id.entry.now (letter ∷ []) }
     ensures local { result.global ≡ false }
 {
     Arg::new(alloc, id).short(letter).action(ArgAction::SetTrue)
 }
 
 // A flag that takes a value.
-fn option(alloc: Global, id: &'static str, letter: char) -> Arg<'static>
-    ensures rule { rule_of result ≡ option_of id.now (letter ∷ []) }
+fn option<'a>(alloc: Global, id: &'a str, letter: char) -> Arg<'a>
+    ensures rule { rule_of result ≡ option_of id.entry.now (letter ∷ []) }
     ensures local { result.global ≡ false }
 {
     Arg::new(alloc, id).short(letter)
 }
 
 // A word that has to stand there.
-fn word(alloc: Global, id: &'static str) -> Arg<'static>
-    ensures rule { rule_of result ≡ word_of id.now }
+fn word<'a>(alloc: Global, id: &'a str) -> Arg<'a>
+    ensures rule { rule_of result ≡ word_of id.entry.now }
     ensures local { result.global ≡ false }
 {
     Arg::new(alloc, id).required(true)
 }
 
 /// The last positional takes no to two words, which stand side by side.
-pub(crate) fn dbtool(alloc: Global) -> Result<Command<'static>, AllocError>
-    ensures { IfOk result (λ command. app_of command ≡ dbtool_app) }
+pub(crate) fn dbtool<'a>(alloc: Global) -> Result<Command<'a>, AllocError>
+    ensures app { IfOk result (λ command. app_of command ≡ dbtool_app) }
+    ensures simple { IfOk result (λ command. is_simple_and_free (app_of command) ≡ true) }
 {
     bare(alloc, "cyr_dbtool")
         .arg(flag(alloc, "make", 'n'))?
@@ -51,8 +52,9 @@ pub(crate) fn dbtool(alloc: Global) -> Result<Command<'static>, AllocError>
 }
 
 /// Four words and no flag.
-pub(crate) fn convert(alloc: Global) -> Result<Command<'static>, AllocError>
-    ensures { IfOk result (λ command. app_of command ≡ convert_app) }
+pub(crate) fn convert<'a>(alloc: Global) -> Result<Command<'a>, AllocError>
+    ensures app { IfOk result (λ command. app_of command ≡ convert_app) }
+    ensures simple { IfOk result (λ command. is_simple_and_free (app_of command) ≡ true) }
 {
     bare(alloc, "cvt_cyrusdb")
         .arg(word(alloc, "old"))?
@@ -62,8 +64,9 @@ pub(crate) fn convert(alloc: Global) -> Result<Command<'static>, AllocError>
 }
 
 /// FOLDER stands for LIST too. PREFIX is a positional of its own, so a flag may stand before it.
-pub(crate) fn reconstruct(alloc: Global) -> Result<Command<'static>, AllocError>
-    ensures { IfOk result (λ command. app_of command ≡ reconstruct_app) }
+pub(crate) fn reconstruct<'a>(alloc: Global) -> Result<Command<'a>, AllocError>
+    ensures app { IfOk result (λ command. app_of command ≡ reconstruct_app) }
+    ensures simple { IfOk result (λ command. is_simple_and_free (app_of command) ≡ true) }
 {
     bare(alloc, "reconstruct")
         .arg(flag(alloc, "recurse", 'r'))?
@@ -76,8 +79,9 @@ pub(crate) fn reconstruct(alloc: Global) -> Result<Command<'static>, AllocError>
 }
 
 /// Any number of uids may follow FOLDER.
-pub(crate) fn unexpunge(alloc: Global) -> Result<Command<'static>, AllocError>
-    ensures { IfOk result (λ command. app_of command ≡ unexpunge_app) }
+pub(crate) fn unexpunge<'a>(alloc: Global) -> Result<Command<'a>, AllocError>
+    ensures app { IfOk result (λ command. app_of command ≡ unexpunge_app) }
+    ensures simple { IfOk result (λ command. is_simple_and_free (app_of command) ≡ true) }
 {
     bare(alloc, "unexpunge")
         .arg(flag(alloc, "list", 'l'))?
@@ -88,8 +92,9 @@ pub(crate) fn unexpunge(alloc: Global) -> Result<Command<'static>, AllocError>
 }
 
 /// Three flags and four options with a number.
-pub(crate) fn purge(alloc: Global) -> Result<Command<'static>, AllocError>
-    ensures { IfOk result (λ command. app_of command ≡ purge_app) }
+pub(crate) fn purge<'a>(alloc: Global) -> Result<Command<'a>, AllocError>
+    ensures app { IfOk result (λ command. app_of command ≡ purge_app) }
+    ensures simple { IfOk result (λ command. is_simple_and_free (app_of command) ≡ true) }
 {
     bare(alloc, "ipurge")
         .arg(flag(alloc, "invert", 'i'))?
@@ -103,8 +108,9 @@ pub(crate) fn purge(alloc: Global) -> Result<Command<'static>, AllocError>
 }
 
 /// One flag and FOLDER.
-pub(crate) fn check(alloc: Global) -> Result<Command<'static>, AllocError>
-    ensures { IfOk result (λ command. app_of command ≡ check_app) }
+pub(crate) fn check<'a>(alloc: Global) -> Result<Command<'a>, AllocError>
+    ensures app { IfOk result (λ command. app_of command ≡ check_app) }
+    ensures simple { IfOk result (λ command. is_simple_and_free (app_of command) ≡ true) }
 {
     bare(alloc, "chk_cyrus")
         .arg(flag(alloc, "mailbox", 'M'))?

@@ -8,7 +8,8 @@ ghost use Rattle.tool_words.specs.declared.jobs.WordFault.TheVariants.{Usage};
 use crate::numbers::rounds;
 use crate::reading::{has, read, rest, text, word};
 use crate::{Job, WordFault, commands};
-use base_core::{Action, Backend, Bytes, NoMemory};
+use base_bytes::{Bytes, NoMemory};
+use base_notes::{Action, Backend};
 use clap::ArgMatches;
 use std::alloc::Global;
 
@@ -84,9 +85,9 @@ fn action(alloc: Global, matches: &ArgMatches<'_>) -> Result<Action, WordFault>
         return Err(WordFault::Usage);
     };
     match rest(matches, "operands") {
-        [] => action_without_words(alloc, name),
-        [word] => action_with_word(alloc, name, word),
-        [key, value] => action_with_two_words(alloc, name, key, value),
+        None | Some([]) => action_without_words(alloc, name),
+        Some([word]) => action_with_word(alloc, name, word),
+        Some([key, value]) => action_with_two_words(alloc, name, key, value),
         _ => Err(WordFault::Usage),
     }
 }

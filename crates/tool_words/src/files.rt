@@ -4,7 +4,7 @@ ghost use Rattle.tool_words.specs.PathsOf.{folder_path_of, index_path_of, main_p
 ghost use Rattle.tool_words.specs.PathsOf.{second_path_of};
 
 use crate::{Job, Paths};
-use base_core::{NoMemory, Text};
+use base_bytes::{NoMemory, Text};
 use std::alloc::Global;
 
 // The path of a folder's index.

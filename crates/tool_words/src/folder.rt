@@ -1,5 +1,5 @@
 // The words of `reconstruct`, `unexpunge`, `ipurge` and `chk_cyrus`.
-ghost use Rattle.std.specs.Prelude.{◌≡◌, IfOk, None, Some, Err, map, option_and_then, string_bytes};
+ghost use Rattle.std.specs.Prelude.{◌≡◌, IfOk, None, Some, Err, map, option_and_then, option_map, string_bytes};
 ghost use Rattle.tool_words.specs.Commands.{check_app, purge_app, reconstruct_app, unexpunge_app};
 ghost use Rattle.tool_words.specs.JobOf.{check_of, measure_in, options_in, purge_of};
 ghost use Rattle.tool_words.specs.JobOf.{reconstruct_of, test_in, uids_of, unexpunge_of, what_in};
@@ -9,7 +9,8 @@ ghost use Rattle.tool_words.specs.declared.jobs.WordFault.TheVariants.{Usage};
 use crate::numbers::{number, uid};
 use crate::reading::{has, read, rest, text, word};
 use crate::{Job, Measure, Test, UidList, What, WordFault, commands};
-use base_core::{Bytes, Options};
+use base_bytes::Bytes;
+use base_notes::Options;
 use clap::ArgMatches;
 use std::alloc::Global;
 
@@ -63,9 +64,9 @@ fn what(alloc: Global, matches: &ArgMatches<'_>) -> Result<What, WordFault>
 {
     let flags = (has(matches, "list"), has(matches, "all"), has(matches, "by_uid"));
     match (flags, rest(matches, "uids")) {
-        ((true, false, false), []) => Ok(What::List),
-        ((false, true, false), []) => Ok(What::All),
-        ((false, false, true), words @ [_, ..]) => Ok(What::Uids {
+        ((true, false, false), None) => Ok(What::List),
+        ((false, true, false), None) => Ok(What::All),
+        ((false, false, true), Some(words)) => Ok(What::Uids {
             uids: uids(alloc, words)?,
         }),
         _ => Err(WordFault::Usage),

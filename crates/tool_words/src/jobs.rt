@@ -5,7 +5,8 @@ ghost use Rattle.tool_words.specs.Reading.{word_fault_of};
 ghost use Rattle.tool_words.specs.declared.jobs.WordFault.TheVariants.{NoMemory as NoRoom};
 
 use crate::{Test, What};
-use base_core::{Action, Backend, Bytes, NoMemory, Options, Text};
+use base_bytes::{Bytes, NoMemory, Text};
+use base_notes::{Action, Backend, Options};
 use clap::error::ErrorKind;
 use std::alloc::{AllocError, AllocFailed};
 

@@ -1,7 +1,7 @@
 // What the tools of mailboxes can be asked for.
 ghost use Rattle.std.specs.Prelude.{◌≡◌, IfOk};
 
-use base_core::NoMemory;
+use base_bytes::NoMemory;
 use std::alloc::Global;
 use std::marker::Model;
 

@@ -1,11 +1,11 @@
 // Clap's answer to a command line, flag by flag and word by word.
 ghost use Rattle.std.specs.Prelude.{◌≡◌, IfOk, None, Some, Err, map, option_map, string_bytes, true};
-ghost use Rattle.clap.specs.Words.{app_of, first_of, is_simple_and_free};
-ghost use Rattle.tool_words.specs.Reading.{has_flag, rest_of, rows_by, rows_in};
+ghost use Rattle.clap.specs.Words.{all_of, app_of, first_of, is_simple_and_free};
+ghost use Rattle.tool_words.specs.Reading.{has_flag, rows_by, rows_in};
 ghost use Rattle.tool_words.specs.declared.jobs.WordFault.TheVariants.{Usage};
 
 use crate::WordFault;
-use base_core::Text;
+use base_bytes::Text;
 use clap::{ArgMatches, Command};
 use std::alloc::Global;
 
@@ -16,9 +16,9 @@ pub(crate) fn read<'a>(
 ) -> Result<ArgMatches<'a>, WordFault>
     requires { is_simple_and_free (app_of command) ≡ true }
     ensures rows { IfOk result (λ matches.
-        rows_by (app_of command) (map string_bytes words.entry.now) ≡ Some (rows_in matches)) }
+        rows_by (app_of command.entry) (map string_bytes words.entry.now) ≡ Some (rows_in matches)) }
     ensures usage { result ≡ Err Usage
-        → rows_by (app_of command) (map string_bytes words.entry.now) ≡ None }
+        → rows_by (app_of command.entry) (map string_bytes words.entry.now) ≡ None }
 {
     Ok(command.try_get_matches_from(words)?)
 }
@@ -37,11 +37,12 @@ pub(crate) fn word<'a>(matches: &ArgMatches<'a>, id: &str) -> Option<&'a str>
     matches.get_str(id)
 }
 
-/// The words of a positional that takes several.
-pub(crate) fn rest<'m, 'a>(matches: &'m ArgMatches<'a>, id: &str) -> &'m [&'a str]
-    ensures { map (λ word. word.now) result.now ≡ rest_of id.now (rows_in matches.entry.now) }
+/// The words of a positional that takes several, where there are any.
+pub(crate) fn rest<'m, 'a>(matches: &'m ArgMatches<'a>, id: &str) -> Option<&'m [&'a str]>
+    ensures { option_map (λ words. map (λ word. word.now) words.now) result
+        ≡ all_of id.now (rows_in matches.entry.now) }
 {
-    matches.get_raw(id).unwrap_or(&[])
+    matches.get_raw(id)
 }
 
 /// A copy of the word of a positional. It is `Usage` that it is not there.
