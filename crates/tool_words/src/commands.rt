@@ -1,7 +1,8 @@
 // Each tool's flags and positionals, as a command of clap.
 ghost use Rattle.std.specs.Prelude.{◌≡◌, IfOk, [], ◌∷◌, false, true};
+ghost use Rattle.clap.specs.Lexer.{usize_max};
 ghost use Rattle.clap.specs.Words.{app_of, is_simple_and_free, rule_of};
-ghost use Rattle.tool_words.specs.Commands.{command_of, flag_of, option_of, word_of};
+ghost use Rattle.tool_words.specs.Commands.{command_of, flag_of, option_of, word_of, words_of};
 ghost use Rattle.tool_words.specs.Commands.{dbtool_app, convert_app, reconstruct_app};
 ghost use Rattle.tool_words.specs.Commands.{unexpunge_app, purge_app, check_app};
 
@@ -38,6 +39,22 @@ fn word<'a>(alloc: Global, id: &'a str) -> Arg<'a>
     Arg::new(alloc, id).required(true)
 }
 
+// No, one or two words, which stand side by side.
+fn up_to_two_words<'a>(alloc: Global, id: &'a str) -> Arg<'a>
+    ensures rule { rule_of result ≡ words_of id.entry.now 0 2 }
+    ensures local { result.global ≡ false }
+{
+    Arg::new(alloc, id).num_args(0..=2)
+}
+
+// Any number of words, or none.
+fn any_words<'a>(alloc: Global, id: &'a str) -> Arg<'a>
+    ensures rule { rule_of result ≡ words_of id.entry.now 1 usize_max }
+    ensures local { result.global ≡ false }
+{
+    Arg::new(alloc, id).num_args(1..)
+}
+
 /// The last positional takes no to two words, which stand side by side.
 pub(crate) fn dbtool<'a>(alloc: Global) -> Result<Command<'a>, AllocError>
     ensures app { IfOk result (λ command. app_of command ≡ dbtool_app) }
@@ -48,7 +65,7 @@ pub(crate) fn dbtool<'a>(alloc: Global) -> Result<Command<'a>, AllocError>
         .arg(word(alloc, "file"))?
         .arg(word(alloc, "backend"))?
         .arg(word(alloc, "action"))?
-        .arg(Arg::new(alloc, "operands").num_args(0..=2))
+        .arg(up_to_two_words(alloc, "operands"))
 }
 
 /// Four words and no flag.
@@ -88,7 +105,7 @@ pub(crate) fn unexpunge<'a>(alloc: Global) -> Result<Command<'a>, AllocError>
         .arg(flag(alloc, "all", 'a'))?
         .arg(flag(alloc, "by_uid", 'u'))?
         .arg(word(alloc, "folder"))?
-        .arg(Arg::new(alloc, "uids").num_args(1..))
+        .arg(any_words(alloc, "uids"))
 }
 
 /// Three flags and four options with a number.
