@@ -72,14 +72,14 @@ options_in rows = record {
 }
 
 -- with `-r` there are two words, and without it one
-abbrev pub reconstruct_job : Bool → Options → Option (List ℕ) → Option (List ℕ) → Option Job
-reconstruct_job false options (Some folder) None = Some (Reconstruct options folder)
-reconstruct_job true options (Some list) (Some prefix) = Some (Recurse options list prefix)
-reconstruct_job recurse options folder prefix = None
+abbrev pub reconstruct_job : Options → Option (List ℕ) → Bool → Option (List ℕ) → Option Job
+reconstruct_job options (Some folder) false None = Some (Reconstruct options folder)
+reconstruct_job options (Some list) true (Some prefix) = Some (Recurse options list prefix)
+reconstruct_job options folder recurse prefix = None
 
 abbrev pub reconstruct_of : List Row → Option Job
-reconstruct_of rows = reconstruct_job (has_flag (codes "recurse") rows) (options_in rows)
-    (first_of (codes "folder") rows) (first_of (codes "prefix") rows)
+reconstruct_of rows = reconstruct_job (options_in rows) (first_of (codes "folder") rows)
+    (has_flag (codes "recurse") rows) (first_of (codes "prefix") rows)
 
 -- every word is a uid
 abbrev pub uids_of : List (List ℕ) → Option (List ℕ)
