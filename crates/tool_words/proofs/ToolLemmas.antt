@@ -12,8 +12,14 @@ no_tool : (tool : List ℕ) (words : List (List ℕ)) → (tool ≡ codes "cyr_d
     → (tool ≡ codes "reconstruct" → ⊥) → (tool ≡ codes "unexpunge" → ⊥) → (tool ≡ codes "ipurge" → ⊥) → (tool ≡ codes "chk_cyrus" → ⊥)
     → job_of_tool tool words ≡ None
 no_tool tool words a b c d e f =
-    rw (different tool (codes "cyr_dbtool") a, different tool (codes "cvt_cyrusdb") b, different tool (codes "reconstruct") c,
-    different tool (codes "unexpunge") d, different tool (codes "ipurge") e, different tool (codes "chk_cyrus") f)
+    rw (
+      different tool (codes "cyr_dbtool") a,
+      different tool (codes "cvt_cyrusdb") b,
+      different tool (codes "reconstruct") c,
+      different tool (codes "unexpunge") d,
+      different tool (codes "ipurge") e,
+      different tool (codes "chk_cyrus") f,
+    )
 
 pub first_names_no_tool : {X : Type 0} (text : X → List ℕ) (words : List X) (tool : X) → Some tool ≡ slice_get words 0
     → (text tool ≡ codes "cyr_dbtool" → ⊥) → (text tool ≡ codes "cvt_cyrusdb" → ⊥)

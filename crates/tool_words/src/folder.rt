@@ -62,7 +62,11 @@ fn what(alloc: Global, matches: &ArgMatches<'_>) -> Result<What, WordFault>
     ensures what { IfOk result (λ what. what_in (rows_in matches.now) ≡ Some what) }
     ensures usage { result ≡ Err Usage → what_in (rows_in matches.now) ≡ None }
 {
-    let flags = (has(matches, "list"), has(matches, "all"), has(matches, "by_uid"));
+    let flags = (
+        has(matches, "list"),
+        has(matches, "all"),
+        has(matches, "by_uid"),
+    );
     match (flags, rest(matches, "uids")) {
         ((true, false, false), None) => Ok(What::List),
         ((false, true, false), None) => Ok(What::All),

@@ -28,7 +28,10 @@ pub enum Job {
         to_kind: Backend,
     },
     /// `reconstruct [-n] [-q] [-o] [-G] FOLDER`.
-    Reconstruct { options: Options, folder: Text },
+    Reconstruct {
+        options: Options,
+        folder: Text,
+    },
     /// `reconstruct -r [-n] [-q] [-o] [-G] LIST PREFIX`; `list` is a database of mailboxes.
     Recurse {
         options: Options,
@@ -36,11 +39,19 @@ pub enum Job {
         prefix: Bytes,
     },
     /// `unexpunge (-l | -a) FOLDER` or `unexpunge -u FOLDER UID ..`.
-    Unexpunge { folder: Text, what: What },
+    Unexpunge {
+        folder: Text,
+        what: What,
+    },
     /// `ipurge [-i] [-s] [-x] (-d N | -b N | -k N | -m N) FOLDER`.
-    Purge { folder: Text, test: Test },
+    Purge {
+        folder: Text,
+        test: Test,
+    },
     /// `chk_cyrus -M FOLDER`.
-    Check { folder: Text },
+    Check {
+        folder: Text,
+    },
 }
 
 /// The paths of a job's files.

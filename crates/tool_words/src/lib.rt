@@ -18,14 +18,13 @@ mod folder;
 mod jobs;
 mod mailbox;
 mod numbers;
-
 mod reading;
 #[cfg(test)]
 mod tests;
 mod words;
 
+pub use files::paths;
 pub use jobs::{Job, Paths, WordFault};
 pub use mailbox::{Measure, Test, UidList, What};
 pub use numbers::ROUNDS_LIMIT;
-pub use files::paths;
 pub use words::job;

@@ -46,11 +46,7 @@ pub(crate) fn rest<'m, 'a>(matches: &'m ArgMatches<'a>, id: &str) -> Option<&'m 
 }
 
 /// A copy of the word of a positional. It is `Usage` that it is not there.
-pub(crate) fn text(
-    alloc: Global,
-    matches: &ArgMatches<'_>,
-    id: &str,
-) -> Result<Text, WordFault>
+pub(crate) fn text(alloc: Global, matches: &ArgMatches<'_>, id: &str) -> Result<Text, WordFault>
     ensures text { IfOk result (λ text. first_of id.now (rows_in matches.now) ≡ Some text) }
     ensures usage { result ≡ Err Usage → first_of id.now (rows_in matches.now) ≡ None }
 {
