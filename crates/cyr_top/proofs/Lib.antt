@@ -1,5 +1,1 @@
-pub mod CrashLemmas
-pub mod MakeLemmas
-pub mod RunLemmas
-pub mod ShownLemmas
-pub mod StatusLemmas
+pub mod StatedLemmas

@@ -1,4 +1,4 @@
-pub mod JobOf
-pub mod Opened
-pub mod Runs
-pub mod StatedResult
+pub mod Actions
+pub mod Asked
+pub mod Crashes
+pub mod Stated

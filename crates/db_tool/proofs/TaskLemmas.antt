@@ -210,10 +210,13 @@ module _ (kind : DbKind) (m : Map) (load : ℕ) (change : Change) (words : ℕ) 
       → LeavesOnly old.disk new.disk (λ c n. (old.disk.mark ≤ n) × (n ≤ new.disk.mark) × KeepsPrefix kind (changing_by None kind s change words) m (n - old.disk.mark) c)
   either r whole = record {
     each = λ c n left.
-        let p = (whole.disk.each refl).each c n left in
-        (omega (arith, p.0), omega (arith, p.0, whole.disk.mark), ⊎_elim
-            (λ opens. record { count = 0; within = omega arith; acknowledged = omega arith; holds = opens })
-            (λ opens. record { count = 1; within = omega arith; acknowledged = omega arith; holds = opens }) p.1);
+        let p = (whole.disk.each refl).each c n left in (
+          omega (arith, p.0),
+          omega (arith, p.0, whole.disk.mark),
+          ⊎_elim
+              (λ opens. record { count = 0; within = omega arith; acknowledged = omega arith; holds = opens })
+              (λ opens. record { count = 1; within = omega arith; acknowledged = omega arith; holds = opens }) p.1,
+        );
   }
 
   made : (v : Unit {0}) → MakesWhole kind (change ∷ []) (over old.disk s) (over new.disk t) (Ok v) → DoesTask kind (changing_by None kind s change words) before after Done

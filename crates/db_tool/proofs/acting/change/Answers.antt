@@ -9,4 +9,3 @@ returns-in-Ok-clause-changes g c = record {
   says = refl;
   streams = g.met.H.Host.disk_keeps _ _ c.run_changes.ensures.rest;
 }
-

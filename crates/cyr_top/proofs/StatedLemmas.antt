@@ -1,0 +1,144 @@
+-- What is stated of an action is stated once.
+use Rattle.std.proofs.Common.{◌≡◌, inl, inr, ℕ, Bool, true, false, List, [], ◌∷◌, Option, Some, None, length, refl, sym, ◌∙◌, ap, subst, arith}
+use Rattle.std.specs.Prelude.{is_some, if◌then◌else◌}
+use Rattle.rand_core.specs.Stream.{next_u32}
+use Rattle.base_bytes.specs.OrderedMap.{Map, value_at}
+use Rattle.base_bytes.specs.declared.change.Change.{Change}
+use Rattle.base_bytes.specs.declared.change.Change.TheVariants.{Put, Del}
+use Rattle.base_bytes.specs.declared.flaw.Damage.{Damage}
+use Rattle.base_bytes.specs.declared.flaw.Flaw.{Flaw}
+use Rattle.base_devices.specs.CrashImages.{Image}
+use Rattle.base_notes.specs.declared.action.Action.{Action}
+use Rattle.base_notes.specs.declared.action.Action.TheVariants.{Show, Get, Set, Delete, Consistent, Repack, Batch, Exercise}
+use Rattle.base_notes.specs.declared.note.Device.TheVariants.{Host}
+use Rattle.base_notes.specs.declared.note.Note.{Note}
+use Rattle.base_notes.specs.declared.note.Note.TheVariants.{Done, Answer}
+use Rattle.db_core.specs.Opening.{OpensTo}
+use Rattle.db_core.specs.Sessions.{DbKind, DbLaws, DbState, at_rest}
+use Rattle.db_core.specs.declared.fault.DbFault.{DbFault}
+use Rattle.db_core.specs.declared.fault.DbFault.TheVariants.{Broken, KeyEmpty, KeyTooLong, ValueTooLong, Full, NoMemory, DiskFault}
+use Rattle.db_core.specs.declared.opening.OpenFault.{OpenFault}
+use Rattle.db_core.specs.declared.opening.OpenFault.TheVariants.{Absent as NoFile, TooBig, NoMemory as NoRoom, DiskFault as NoDisk, Damaged as Flawed}
+use Rattle.db_tool.specs.Tasks.{Given, Task, changing_by, lacks_key, task_if}
+use Rattle.db_tool.specs.ToolNotes.{change_note, opening_note}
+use Rattle.cyr_top.specs.Asked.{Asked, task_for}
+use Rattle.cyr_top.specs.Stated.{StartsFrom, IsUnopened, StatedResult, acted, unopened, unopened_note, unopened_output, IsBuilt}
+
+pub same_bytes : (main : Image) (a b : List ℕ) → main ≡ Some a → main ≡ Some b → a ≡ b
+same_bytes main a b first second = cc (first, second)
+
+module _ (asked : Asked) (laws : DbLaws asked.kind) where
+  -- an absent file opens to no map
+  pub none_opens : (main : Image) (m : Map) → main ≡ None → asked.kind.opens main m → ⊥
+  none_opens main m none opens = cc (none, (laws.within main m opens).1)
+
+  -- a file that opens is not refused
+  pub opens_fails : (main : Image) (s : DbState) (fault : OpenFault) → OpensTo asked.kind main s → IsUnopened asked main fault → ⊥
+  opens_fails main s NoFile opens un = cc (un.0, opens.there)
+  opens_fails main s (TooBig size) opens un =
+      let there = laws.within main opens.map opens.opens in
+      absurd (omega (arith, un.over, un.counted, there.2, ap length (same_bytes main un.bytes there.0 un.there there.1)))
+  opens_fails main s (Flawed at check) opens un =
+      laws.never_both un.bytes opens.map (record { at = at; check = check }) (subst (λ (i : Image). asked.kind.opens i opens.map) un.there opens.opens) un.so
+  opens_fails main s NoRoom opens un = un
+  opens_fails main s NoDisk opens un = un
+
+  pub starts_fails : (main : Image) (s : DbState) (fault : OpenFault) → StartsFrom asked main s → IsUnopened asked main fault → ⊥
+  starts_fails main s fault (inl opens) un = opens_fails main s fault opens un
+  starts_fails main s NoFile (inr makes) un = un.1 makes.0
+  starts_fails main s (TooBig size) (inr makes) un = cc (makes.1, un.there)
+  starts_fails main s (Flawed at check) (inr makes) un = cc (makes.1, un.there)
+  starts_fails main s NoRoom (inr makes) un = un
+  starts_fails main s NoDisk (inr makes) un = un
+
+  -- a file opens to one session, and an action starts from one
+  pub opens_once : (main : Image) (s t : DbState) → OpensTo asked.kind main s → OpensTo asked.kind main t → s ≡ t
+  opens_once main s t one other =
+      let same_map : one.map ≡ other.map = laws.once main one.map other.map one.opens other.opens in
+      let same_load : asked.kind.load_of one.bytes ≡ asked.kind.load_of other.bytes = ap asked.kind.load_of (same_bytes main one.bytes other.bytes one.there other.there) in
+      one.rests ∙ ap (λ (m : Map). at_rest m (asked.kind.load_of one.bytes)) same_map ∙ ap (λ (n : ℕ). at_rest other.map n) same_load ∙ sym other.rests
+
+  pub starts_once : (main : Image) (s t : DbState) → StartsFrom asked main s → StartsFrom asked main t → s ≡ t
+  starts_once main s t (inl one) (inl other) = opens_once main s t one other
+  starts_once main s t (inl one) (inr other) = absurd (cc (one.there, other.1))
+  starts_once main s t (inr one) (inl other) = absurd (cc (other.there, one.1))
+  starts_once main s t (inr one) (inr other) = one.2 ∙ sym other.2
+
+  -- and is refused with one fault
+  pub unopened_once : (main : Image) (a b : OpenFault) → IsUnopened asked main a → IsUnopened asked main b → a ≡ b
+  unopened_once main NoFile NoFile one other = refl
+  unopened_once main NoFile (TooBig size) one other = absurd (cc (one.0, other.there))
+  unopened_once main NoFile (Flawed at check) one other = absurd (cc (one.0, other.there))
+  unopened_once main (TooBig size) NoFile one other = absurd (cc (other.0, one.there))
+  unopened_once main (TooBig size) (TooBig other_size) one other = ap (λ (n : ℕ). TooBig n) (one.counted ∙ ap length (same_bytes main one.bytes other.bytes one.there other.there) ∙ sym other.counted)
+  unopened_once main (TooBig size) (Flawed at check) one other = absurd (omega (arith, one.over, one.counted, other.within, ap length (same_bytes main one.bytes other.bytes one.there other.there)))
+  unopened_once main (Flawed at check) NoFile one other = absurd (cc (other.0, one.there))
+  unopened_once main (Flawed at check) (TooBig size) one other = absurd (omega (arith, other.over, other.counted, one.within, ap length (same_bytes main one.bytes other.bytes one.there other.there)))
+  unopened_once main (Flawed at check) (Flawed place found) one other =
+      let same = laws.first other.bytes (record { at = at; check = check }) (record { at = place; check = found }) (subst (λ (l : List ℕ). asked.kind.flawed l (record { at = at; check = check })) (same_bytes main one.bytes other.bytes one.there other.there) one.so) other.so in
+      ap (λ (d : Damage). Flawed d.at d.check) same
+  unopened_once main NoRoom b one other = absurd one
+  unopened_once main NoDisk b one other = absurd one
+  unopened_once main NoFile NoRoom one other = absurd other
+  unopened_once main NoFile NoDisk one other = absurd other
+  unopened_once main (TooBig size) NoRoom one other = absurd other
+  unopened_once main (TooBig size) NoDisk one other = absurd other
+  unopened_once main (Flawed at check) NoRoom one other = absurd other
+  unopened_once main (Flawed at check) NoDisk one other = absurd other
+
+  pub stated_once : (main : Image) (note wanted : Note) (told output : List ℕ) → StatedResult asked main note told → StatedResult asked main wanted output → (note ≡ wanted) × (told ≡ output)
+  stated_once main note wanted told output (acted s starts is out) (acted t starts_too is_too out_too) =
+      let same = starts_once main s t starts starts_too in
+      (is ∙ ap (λ (x : DbState). (task_for asked x).note) same ∙ sym is_too, out ∙ ap (λ (x : DbState). (task_for asked x).output) same ∙ sym out_too)
+  stated_once main note wanted told output (acted s starts is out) (unopened fault un is_too out_too) = absurd (starts_fails main s fault starts un)
+  stated_once main note wanted told output (unopened fault un is out) (acted s starts is_too out_too) = absurd (starts_fails main s fault starts un)
+  stated_once main note wanted told output (unopened fault un is out) (unopened found un_too is_too out_too) =
+      let same = unopened_once main fault found un un_too in
+      (is ∙ ap (λ (f : OpenFault). unopened_note asked.action f) same ∙ sym is_too, out ∙ ap (λ (f : OpenFault). unopened_output asked.action f) same ∙ sym out_too)
+
+-- ---- what holds of each task that is built
+
+-- of a change: nothing is acknowledged before its end, nothing stands at its start where memory runs out, and its note is one of those that are built
+pub record IsPlain (task : Task) : Type 0 where
+  pub none : task.acknowledged 0 ≡ 0
+  pub may : task.may_stand 0 0
+  pub built : IsBuilt task.note
+
+refused_built : (fault : DbFault) → IsBuilt (change_note Host fault)
+refused_built Broken = tt
+refused_built KeyEmpty = tt
+refused_built (KeyTooLong n) = tt
+refused_built (ValueTooLong n) = tt
+refused_built (Full n) = tt
+refused_built NoMemory = tt
+refused_built DiskFault = tt
+
+change_plain : (owed : Option DbFault) (kind : DbKind) (s : DbState) (change : Change) (words : ℕ) → IsPlain (changing_by owed kind s change words)
+change_plain None kind s change words = record { none = refl; may = (refl, refl); built = tt }
+change_plain (Some fault) kind s change words = record { none = refl; may = (refl, refl); built = refused_built fault }
+
+answer_built : (b : Bool) → IsBuilt (if b then Done else Answer)
+answer_built true = tt
+answer_built false = tt
+
+plain_by : (kind : DbKind) (s : DbState) (g : Given) (b : Bool) (a : Action) → IsPlain (task_if b kind s g a)
+plain_by kind s g true a = record { none = refl; may = (refl, refl); built = tt }
+plain_by kind s g false (Show prefix) = record { none = refl; may = (refl, refl); built = tt }
+plain_by kind s g false (Get key) = record { none = refl; may = (refl, refl); built = answer_built (is_some (value_at s.seen key)) }
+plain_by kind s g false (Set key value) = change_plain _ kind s (Put (next_u32 g.words).0 key value) 1
+plain_by kind s g false (Delete key) = change_plain _ kind s (Del key) 0
+plain_by kind s g false Consistent = record { none = refl; may = (refl, refl); built = tt }
+plain_by kind s g false Repack = record { none = refl; may = (refl, refl); built = tt }
+plain_by kind s g false Batch = record { none = refl; may = (refl, refl); built = tt }
+plain_by kind s g false (Exercise rounds) = record { none = refl; may = (refl, refl); built = tt }
+
+pub task_plain : (asked : Asked) (s : DbState) → IsPlain (task_for asked s)
+task_plain asked s = plain_by asked.kind s asked.given (lacks_key asked.action) asked.action
+
+pub opening_built : (fault : OpenFault) → IsBuilt (opening_note Host fault)
+opening_built NoFile = tt
+opening_built (TooBig size) = tt
+opening_built NoRoom = tt
+opening_built NoDisk = tt
+opening_built (Flawed at check) = tt
+

@@ -1,0 +1,55 @@
+-- What a command line asks of a database, and which jobs are built.
+use Rattle.std.specs.Prelude.{◌≡◌, Bool, true, false, List, ℕ, Option, None, Some, option_and_then, if◌then◌else◌}
+use Rattle.base_notes.specs.declared.action.Action.{Action}
+use Rattle.base_notes.specs.declared.action.Action.TheVariants.{Consistent, Show, Get, Set, Delete}
+use Rattle.base_notes.specs.declared.action.Backend.TheVariants.{Flat}
+use Rattle.db_core.specs.Sessions.{DbKind, DbState}
+use Rattle.db_tool.specs.Tasks.{Given, Task, task_of}
+use Rattle.flat_db.specs.Sessions.{flat_kind}
+use Rattle.tool_words.specs.JobOf.{job_of}
+use Rattle.tool_words.specs.declared.jobs.Job.{Job}
+use Rattle.tool_words.specs.declared.jobs.Job.TheVariants.{Dbtool}
+
+-- An action over a database of some kind, which is made where it is absent if `make` says so.
+pub record Asked : Type 1 where
+  pub kind : DbKind
+  pub make : Bool
+  pub action : Action
+  pub given : Given
+
+abbrev pub asking : DbKind → Bool → Action → Given → Asked
+asking kind make action given = record { kind = kind; make = make; action = action; given = given }
+
+-- the task that is asked for, over the session with which the database opens
+abbrev pub task_for : Asked → DbState → Task
+task_for asked s = task_of asked.kind s asked.given asked.action
+
+-- ---- the jobs that are built, in one place: all others end with `usage` as wrong words do
+
+abbrev pub is_done : Action → Bool
+is_done (Show prefix) = true
+is_done (Get key) = true
+is_done (Set key value) = true
+is_done (Delete key) = true
+is_done Consistent = true
+is_done action = false
+
+abbrev pub is_built : Job → Bool
+is_built (Dbtool make file Flat action) = is_done action
+is_built job = false
+
+abbrev pub if_built : Job → Option Job
+if_built job = if is_built job then Some job else None
+
+-- the job of the words, where it is built
+abbrev pub built_job_of : List (List ℕ) → Option Job
+built_job_of words = option_and_then if_built (job_of words)
+
+-- What holds of a job over a database, by the kind of its backend. This is the one place that chooses the kind.
+abbrev pub OnDatabase : Given → (Asked → Type 0) → Job → Type 0
+OnDatabase given P (Dbtool make file Flat action) = P (asking flat_kind make action given)
+OnDatabase given P job = Unit {0}
+
+-- P holds of what the words ask of a database
+abbrev pub WhereAsked : List (List ℕ) → Given → (Asked → Type 0) → Type 0
+WhereAsked words given P = (job : Job) → built_job_of words ≡ Some job → OnDatabase given P job
