@@ -61,6 +61,12 @@ pub record KeepsFile (old new : DiskState) : Type 0 where
   pub written : new.written ≡ old.written
   pub publishes : new.publishes ≡ old.publishes
 
+-- no new file was begun, and the main file was neither written nor replaced
+pub record KeepsCounts (old new : DiskState) : Type 0 where
+  pub fresh : new.fresh ≡ old.fresh
+  pub written : new.written ≡ old.written
+  pub publishes : new.publishes ≡ old.publishes
+
 -- ---- the main file is replaced
 
 -- after Ok the file reads these bytes, and a crash leaves nothing else

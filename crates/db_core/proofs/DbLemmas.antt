@@ -188,7 +188,7 @@ whole_made {X = X} state kind changes old first last new x y z (Err fault) owed 
       refused = subst (λ (f : DbFault). MayEnd (run_refusal kind old changes) f) (sym failed) tt;
       after = subst (λ (f : DbFault). IsAfterRefusal f old new) (sym failed) (subst (λ (f : DbFault). IsAfterRefusal f last new) failed commit.answer.after);
       disk = whole_disk kind old first last changes (state x) (state y) (state z) start sound some.done some.made ab bc some.disk commit.disk;
-      given_up = ⊎_elim inl (λ same. inr (subst (λ d. OnDisk old (OpensCommitted kind old) (state x) (state d)) (sym same) (begun_disk kind old first (state x) (state y) start sound some.disk))) still;
+      given_up = ⊎_elim (λ failed. inl (failed, sym (run_owed kind old first changes owed start) ∙ some.ok)) (λ same. inr (subst (λ d. OnDisk old (OpensCommitted kind old) (state x) (state d)) (sym same) (begun_disk kind old first (state x) (state y) start sound some.disk))) still;
       in_place = λ is. commit.in_place is ∙ some.in_place is;
       cause = subst (λ (n : ℕ). FaultHasCause {T = X} IsDiskFault n (state z).faults (Err fault)) some.cause.kept commit.cause;
     }

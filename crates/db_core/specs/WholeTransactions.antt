@@ -56,9 +56,10 @@ pub record MakesWhole {T : Type 0} (kind : DbKind) (changes : List Change) (old 
   pub done : OnOk result (new.session ≡ run_after kind old.session changes)
   pub refused : IfErr result (λ fault. MayEnd (run_refusal kind old.session changes) fault)
   pub after : IfErr result (λ fault. IsAfterRefusal fault old.session new.session)
-  -- at each moment all of it or nothing, and where it was refused nothing
+  -- at each moment all of it or nothing; and nothing where it was refused, but by the disk at its end
   pub disk : OnDisk old.session (OpensWhole kind changes old.session) old.disk new.disk
-  pub given_up : IfErr result (λ fault. IsDiskFault fault ⊎ OnDisk old.session (OpensCommitted kind old.session) old.disk new.disk)
+  pub given_up : IfErr result (λ fault. (IsDiskFault fault × (run_refusal kind old.session changes ≡ None))
+      ⊎ OnDisk old.session (OpensCommitted kind old.session) old.disk new.disk)
   pub in_place : KeepsInPlace kind old.disk new.disk
   pub cause : FaultHasCause IsDiskFault old.disk.faults new.disk.faults result
 

@@ -1,18 +1,16 @@
 -- Keys with a prefix stand side by side.
-use Rattle.std.proofs.Common.{◌≡◌, ℕ, ◌<◌, Bool, true, false, cond, List, [], ◌∷◌, ◌++◌, ◌≤◌, Option, None, Some, length, refl, sym, ◌∙◌, ap, subst, append_assoc, arith}
+use Rattle.std.proofs.Common.{◌≡◌, ◌⊎◌, inl, inr, ⊎_elim, ℕ, ◌<◌, Bool, true, false, cond, List, [], ◌∷◌, ◌++◌, ◌≤◌, length, refl, sym, ◌∙◌, ap, subst, append_assoc, arith}
 use Rattle.std.proofs.lemmas.List.{append-nil}
 use Rattle.std.proofs.lemmas.List.Elements.{filter-append}
-use Rattle.std.specs.Prelude.{filter, not, slice_get, nat_eq, nat_lt, ◌==◌, ◌&&◌}
+use Rattle.std.proofs.lemmas.List.Filters.{length-filter_both}
+use Rattle.std.specs.Prelude.{filter, not, nat_eq, nat_lt, ◌==◌, ◌&&◌}
 use Rattle.std.specs.declared.cmp.Ordering.{Ordering}
 use Rattle.std.specs.declared.cmp.Ordering.TheVariants.{Less, Equal, Greater}
 use Rattle.std.specs.Ordering.{nat_cmp, ordering_then, is_lt}
 use Rattle.std.specs.List.{starts_with}
-use Rattle.base_bytes.specs.OrderedMap.{Map, IsBelow, IsOrderedMap, key_order, with_prefix}
-use Rattle.base_bytes.proofs.OrderedMaps.{below_then, below_turned, key_itself}
-use Rattle.base_bytes.specs.declared.pair.Pair.{Pair}
-use Rattle.db_core.specs.Answers.{pair_of}
-use Rattle.db_core.specs.Sessions.{first_from, first_above}
-use Rattle.db_tool.specs.Acting.{pair_text, shown}
+use Rattle.base_bytes.specs.OrderedMap.{Map, IsBelow, IsOrderedMap, key_order, with_prefix, pairs_from}
+use Rattle.base_bytes.proofs.OrderedMaps.{below_then}
+use Rattle.db_tool.specs.Printing.{pair_text, shown}
 
 -- whether a key begins with a prefix, byte by byte
 begins : List ℕ → List ℕ → Bool
@@ -91,7 +89,7 @@ above_lacks (y ∷ key) (z ∷ other) (x ∷ prefix) not_below lacks below = by 
         (further (λ lower. not_below (ap (λ (o : Ordering). ordering_then o (key_order key prefix)) is ∙ lower)) (later_lacks (sym same)) (sym (ap (λ (o : Ordering). ordering_then o (key_order key other)) it) ∙ below))
         ∙ by_false (nat_eq x z)
 
--- ---- a walk over the pairs with a prefix
+-- ---- which pairs have it
 
 -- the pair does not have the prefix, or has it
 pub lacking : (prefix : List ℕ) (p : List ℕ × List ℕ) (m : Map) → starts_with nat_eq p.0 prefix ≡ false → with_prefix (p ∷ m) prefix ≡ with_prefix m prefix
@@ -110,68 +108,71 @@ pub prefix_parts : (prefix : List ℕ) (m n : Map) → with_prefix (m ++ n) pref
 unfolding with_prefix
 prefix_parts prefix m n = filter-append (λ q. starts_with nat_eq q.0 prefix) m n
 
+-- ---- a walk over the pairs with a prefix
+
 -- the first key, if there is one, is not below the prefix
 pub IsFrom : List ℕ → Map → Type 0
 IsFrom prefix [] = Unit {0}
 IsFrom prefix (p ∷ m) = ¬ IsBelow p.0 prefix
 
--- The pairs so far, and those to come: the next one is looked at.
-pub record Walk (prefix : List ℕ) (m : Map) (next : Option (List ℕ × List ℕ)) (done : Map) (left : Map) : Type 0 where
-  pub whole : m ≡ done ++ left
-  pub here : next ≡ slice_get left 0
+-- The pairs so far have the prefix, and those that are left rise from it on.
+pub record Walked (prefix : List ℕ) (m : Map) (done left : Map) : Type 0 where
+  pub all : with_prefix m prefix ≡ done ++ with_prefix left prefix
+  pub ordered : IsOrderedMap left
   pub from : IsFrom prefix left
 
--- it begins at the first key that is not below the prefix
-pub walk_begins : (prefix : List ℕ) (m : Map) → (done : Map) × (left : Map) × Walk prefix m (first_from m prefix) done left × (with_prefix done prefix ≡ [])
-unfolding with_prefix IsFrom
-walk_begins prefix [] = ([], [], record { whole = refl; here = refl; from = tt }, refl)
-walk_begins prefix (p ∷ m) = by (walk_begins prefix m) (key_order p.0 prefix) refl
+-- whether the first pair is below the prefix
+from_by : (p : List ℕ × List ℕ) (m : Map) (prefix : List ℕ) (o : Ordering) → key_order p.0 prefix ≡ o → pairs_from (p ∷ m) prefix ≡ cond (not (is_lt o)) (p ∷ pairs_from m prefix) (pairs_from m prefix)
+unfolding pairs_from
+from_by p m prefix o is = ap (λ (o : Ordering). cond (not (is_lt o)) (p ∷ pairs_from m prefix) (pairs_from m prefix)) is
+
+from_none : (prefix : List ℕ) → pairs_from [] prefix ≡ []
+unfolding pairs_from
+from_none prefix = refl
+
+falls_not : (key prefix : List ℕ) → ¬ IsBelow key prefix → (key_order key prefix ≡ Equal) ⊎ (key_order key prefix ≡ Greater)
+falls_not key prefix not = by (key_order key prefix) refl
   where
-    by : (done : Map) × (left : Map) × Walk prefix m (first_from m prefix) done left × (with_prefix done prefix ≡ []) → (o : Ordering) → key_order p.0 prefix ≡ o
-        → (done : Map) × (left : Map) × Walk prefix (p ∷ m) (first_from (p ∷ m) prefix) done left × (with_prefix done prefix ≡ [])
-    by later Less is = (
-      p ∷ later.0,
-      later.1,
-      record {
-        whole = ap (λ (l : Map). p ∷ l) later.2.whole;
-        here = ap (λ (o : Ordering). cond (not (is_lt o)) (Some p) (first_from m prefix)) is ∙ later.2.here;
-        from = later.2.from;
-      },
-      lacking prefix p later.0 (begins_is p.0 prefix ∙ below_lacks p.0 prefix is) ∙ later.3,
-    )
-    by later Equal is = ([], p ∷ m, record { whole = refl; here = ap (λ (o : Ordering). cond (not (is_lt o)) (Some p) (first_from m prefix)) is; from = λ below. absurd (cc (sym is ∙ below)) }, refl)
-    by later Greater is = ([], p ∷ m, record { whole = refl; here = ap (λ (o : Ordering). cond (not (is_lt o)) (Some p) (first_from m prefix)) is; from = λ below. absurd (cc (sym is ∙ below)) }, refl)
+    by : (o : Ordering) → key_order key prefix ≡ o → (key_order key prefix ≡ Equal) ⊎ (key_order key prefix ≡ Greater)
+    by Less is = absurd (not is)
+    by Equal is = inl is
+    by Greater is = inr is
 
--- a lower key stands in front of each later one
-in_front : (a : List ℕ × List ℕ) (front : Map) (p : List ℕ × List ℕ) (left : Map) → IsOrderedMap (a ∷ (front ++ (p ∷ left))) → IsBelow a.0 p.0
-in_front a [] p left ordered = ordered.0
-in_front a (b ∷ front) p left ordered = below_then a.0 b.0 p.0 ordered.0 (in_front b front p left ordered.1)
+-- behind a pair that is not below it none is
+from_behind : (prefix : List ℕ) (p : List ℕ × List ℕ) (m : Map) → IsOrderedMap (p ∷ m) → ¬ IsBelow p.0 prefix → pairs_from m prefix ≡ m
+from_behind prefix p [] rises not = from_none prefix
+from_behind prefix p (q ∷ m) rises not =
+    let still : ¬ IsBelow q.0 prefix = λ below. not (below_then p.0 q.0 prefix rises.0 below) in
+    let later = ap (λ (l : Map). q ∷ l) (from_behind prefix q m rises.1 still) in
+    ⊎_elim (λ is. from_by q m prefix Equal is ∙ later) (λ is. from_by q m prefix Greater is ∙ later) (falls_not q.0 prefix still)
 
-first_above_here : (front : Map) (p : List ℕ × List ℕ) (left : Map) → IsOrderedMap (front ++ (p ∷ left)) → first_above (front ++ (p ∷ left)) p.0 ≡ slice_get left 0
-first_above_here [] p [] ordered = ap (λ (o : Ordering). cond (is_lt o) (Some p) None) (key_itself p.0)
-first_above_here [] p (q ∷ left) ordered =
-    ap (λ (o : Ordering). cond (is_lt o) (Some p) (first_above (q ∷ left) p.0)) (key_itself p.0)
-    ∙ ap (λ (o : Ordering). cond (is_lt o) (Some q) (first_above left p.0)) ordered.0
-first_above_here (a ∷ front) p left ordered =
-    ap (λ (o : Ordering). cond (is_lt o) (Some a) (first_above (front ++ (p ∷ left)) p.0)) (below_turned a.0 p.0 (in_front a front p left ordered))
-    ∙ first_above_here front p left ordered.1
-
-tail_ordered : (front m : Map) → IsOrderedMap (front ++ m) → IsOrderedMap m
-tail_ordered [] m ordered = ordered
-tail_ordered (a ∷ front) m ordered = tail_ordered front m ordered.1
-
--- and goes on behind the pair that was looked at
-pub walk_goes_on : (prefix : List ℕ) (m : Map) (done : Map) (p : List ℕ × List ℕ) (left : Map) → IsOrderedMap m → Walk prefix m (Some p) done (p ∷ left) → Walk prefix m (first_above m p.0) (done ++ (p ∷ [])) left
+-- it begins at the first pair that is not below the prefix
+pub walked_none : (prefix : List ℕ) (m : Map) → IsOrderedMap m → Walked prefix m [] (pairs_from m prefix)
 unfolding IsFrom
-walk_goes_on prefix m done p left ordered walk = record {
-  whole = walk.whole ∙ sym (append_assoc done (p ∷ []) left);
-  here = ap (λ (l : Map). first_above l p.0) walk.whole ∙ first_above_here done p left (subst IsOrderedMap walk.whole ordered);
-  from = by left (tail_ordered done (p ∷ left) (subst IsOrderedMap walk.whole ordered));
+walked_none prefix [] ordered = subst (λ (l : Map). Walked prefix [] [] l) (sym (from_none prefix)) (record { all = refl; ordered = tt; from = tt })
+walked_none prefix (p ∷ m) ordered = by (walked_none prefix m ordered.1) (key_order p.0 prefix) refl
+  where
+    here : ¬ IsBelow p.0 prefix → pairs_from (p ∷ m) prefix ≡ p ∷ pairs_from m prefix → Walked prefix (p ∷ m) [] (pairs_from (p ∷ m) prefix)
+    here not is = subst (λ (l : Map). Walked prefix (p ∷ m) [] l) (sym (is ∙ ap (λ (l : Map). p ∷ l) (from_behind prefix p m ordered not))) (record { all = refl; ordered = ordered; from = not })
+
+    by : Walked prefix m [] (pairs_from m prefix) → (o : Ordering) → key_order p.0 prefix ≡ o → Walked prefix (p ∷ m) [] (pairs_from (p ∷ m) prefix)
+    by later Less is = subst (λ (l : Map). Walked prefix (p ∷ m) [] l) (sym (from_by p m prefix Less is))
+        (record { all = lacking prefix p m (begins_is p.0 prefix ∙ below_lacks p.0 prefix is) ∙ later.all; ordered = later.ordered; from = later.from })
+    by later Equal is = here (λ below. cc (sym is ∙ below)) (from_by p m prefix Equal is)
+    by later Greater is = here (λ below. cc (sym is ∙ below)) (from_by p m prefix Greater is)
+
+-- and goes on behind a pair that has it
+pub walked_more : (prefix : List ℕ) (m done : Map) (p : List ℕ × List ℕ) (rest : Map) → starts_with nat_eq p.0 prefix ≡ true → Walked prefix m done (p ∷ rest) → Walked prefix m (done ++ (p ∷ [])) rest
+unfolding IsFrom
+walked_more prefix m done p rest has walked = record {
+  all = walked.all ∙ ap (λ (l : Map). done ++ l) (having prefix p rest has) ∙ sym (append_assoc done (p ∷ []) (with_prefix rest prefix));
+  ordered = walked.ordered.1;
+  from = by rest walked.ordered;
 }
   where
     by : (left : Map) → IsOrderedMap (p ∷ left) → IsFrom prefix left
     by [] rises = tt
-    by (q ∷ left) rises = λ below. walk.from (below_then p.0 q.0 prefix rises.0 below)
+    by (q ∷ left) rises = λ below. walked.from (below_then p.0 q.0 prefix rises.0 below)
 
 -- behind a pair that lacks the prefix, and is not below it, no pair has it
 lacking_behind : (prefix : List ℕ) (p : List ℕ × List ℕ) (left : Map) → IsOrderedMap (p ∷ left) → ¬ IsBelow p.0 prefix → starts_with nat_eq p.0 prefix ≡ false → with_prefix left prefix ≡ []
@@ -181,37 +182,24 @@ lacking_behind prefix p (q ∷ left) rises not_below lacks =
     let next : starts_with nat_eq q.0 prefix ≡ false = begins_is q.0 prefix ∙ above_lacks p.0 q.0 prefix not_below (sym (begins_is p.0 prefix) ∙ lacks) rises.0 in
     lacking prefix q left next ∙ lacking_behind prefix q left rises.1 (λ below. not_below (below_then p.0 q.0 prefix rises.0 below)) next
 
--- it ends at a key that lacks the prefix, and where no pair is left
-pub walk_ends : (prefix : List ℕ) (m : Map) (done : Map) (p : List ℕ × List ℕ) (left : Map) → IsOrderedMap m → Walk prefix m (Some p) done (p ∷ left) → starts_with nat_eq p.0 prefix ≡ false → with_prefix m prefix ≡ with_prefix done prefix
+-- it ends where no pair is left, and at a pair that lacks the prefix
+pub walked_over : (prefix : List ℕ) (m done left : Map) → left ≡ [] → Walked prefix m done left → with_prefix m prefix ≡ done
+walked_over prefix m done left none walked = walked.all ∙ ap (λ (l : Map). done ++ l) (ap (λ (l : Map). with_prefix l prefix) none ∙ none_of prefix) ∙ append-nil done
+
+pub walked_ends : (prefix : List ℕ) (m done : Map) (p : List ℕ × List ℕ) (rest : Map) → starts_with nat_eq p.0 prefix ≡ false → Walked prefix m done (p ∷ rest) → with_prefix m prefix ≡ done
 unfolding IsFrom
-walk_ends prefix m done p left ordered walk lacks =
-    ap (λ (l : Map). with_prefix l prefix) walk.whole ∙ prefix_parts prefix done (p ∷ left)
-    ∙ ap (λ (l : Map). with_prefix done prefix ++ l) (lacking prefix p left lacks ∙ lacking_behind prefix p left (tail_ordered done (p ∷ left) (subst IsOrderedMap walk.whole ordered)) walk.from lacks)
-    ∙ append-nil (with_prefix done prefix)
+walked_ends prefix m done p rest lacks walked =
+    walked.all ∙ ap (λ (l : Map). done ++ l) (lacking prefix p rest lacks ∙ lacking_behind prefix p rest walked.ordered walked.from lacks) ∙ append-nil done
 
-pub walk_over : (prefix : List ℕ) (m : Map) (next : Option (List ℕ × List ℕ)) (done : Map) → Walk prefix m next done [] → with_prefix m prefix ≡ with_prefix done prefix
-walk_over prefix m next done walk = ap (λ (l : Map). with_prefix l prefix) (walk.whole ∙ append-nil done)
+pub fewer_from : (m : Map) (prefix : List ℕ) → length (pairs_from m prefix) ≤ length m
+unfolding pairs_from
+fewer_from m prefix =
+    let kept : List ℕ × List ℕ → Bool = λ p. not (is_lt (key_order p.0 prefix)) in
+    omega (arith, length-filter_both kept (λ p. not (kept p)) (λ p. refl) m)
 
-pub walk_done : (prefix : List ℕ) (m : Map) (next : Option (List ℕ × List ℕ)) (done left : Map) → Walk prefix m next done left → length left ≤ 0 → with_prefix m prefix ≡ with_prefix done prefix
-walk_done prefix m next done [] walk none = walk_over prefix m next done walk
-walk_done prefix m next done (p ∷ left) walk none = absurd (omega (arith, none))
-
--- what is left begins with the pair that is looked at
-left_some : (prefix : List ℕ) (m : Map) (p : List ℕ × List ℕ) (done left : Map) → Walk prefix m (Some p) done left → (rest : Map) × (left ≡ p ∷ rest)
-left_some prefix m p done [] walk = absurd (cc walk.here)
-left_some prefix m p done (q ∷ left) walk = (left, cc walk.here)
-
-pub walk_at : (prefix : List ℕ) (m : Map) (next : Option Pair) (pair : Pair) (done left : Map) → next ≡ Some pair → Walk prefix m (pair_of next) done left
-    → (rest : Map) × (left ≡ (pair.key.now, pair.value.now) ∷ rest) × Walk prefix m (Some (pair.key.now, pair.value.now)) done ((pair.key.now, pair.value.now) ∷ rest)
-walk_at prefix m next pair done left is walk =
-    let p : List ℕ × List ℕ = (pair.key.now, pair.value.now) in
-    let here = subst (λ (n : Option Pair). Walk prefix m (pair_of n) done left) is walk in
-    let rest = left_some prefix m p done left here in
-    (rest.0, rest.1, subst (λ (l : Map). Walk prefix m (Some p) done l) rest.1 here)
-
-pub left_none : (prefix : List ℕ) (m : Map) (done left : Map) → Walk prefix m None done left → left ≡ []
-left_none prefix m done [] walk = refl
-left_none prefix m done (q ∷ left) walk = absurd (cc walk.here)
+pub none_left : (left : Map) → length left ≤ 0 → left ≡ []
+none_left [] none = refl
+none_left (p ∷ left) none = absurd (omega (arith, none))
 
 -- ---- what is printed
 
@@ -219,15 +207,13 @@ shown_parts : (m n : Map) → shown (m ++ n) ≡ shown m ++ shown n
 shown_parts [] n = refl
 shown_parts (p ∷ m) n = ap (λ (l : List ℕ). pair_text p ++ l) (shown_parts m n) ∙ sym (append_assoc (pair_text p) (shown m) (shown n))
 
-pub shown_more : (prefix : List ℕ) (done : Map) (p : List ℕ × List ℕ) → starts_with nat_eq p.0 prefix ≡ true → shown (with_prefix done prefix) ++ pair_text p ≡ shown (with_prefix (done ++ (p ∷ [])) prefix)
-shown_more prefix done p has = sym (
-    ap shown (prefix_parts prefix done (p ∷ []) ∙ ap (λ (l : Map). with_prefix done prefix ++ l) (having prefix p [] has ∙ ap (λ (l : Map). p ∷ l) (none_of prefix)))
-    ∙ shown_parts (with_prefix done prefix) (p ∷ []) ∙ ap (λ (l : List ℕ). shown (with_prefix done prefix) ++ l) (append-nil (pair_text p)))
+pub shown_more : (done : Map) (p : List ℕ × List ℕ) → shown (done ++ (p ∷ [])) ≡ shown done ++ pair_text p
+shown_more done p = shown_parts done (p ∷ []) ∙ ap (λ (l : List ℕ). shown done ++ l) (append-nil (pair_text p))
 
-pub shown_whole : (prefix : List ℕ) (m : Map) (next : Option (List ℕ × List ℕ)) (done : Map) (p : List ℕ × List ℕ) (rest : Map) → Walk prefix m next done (p ∷ rest) → starts_with nat_eq p.0 prefix ≡ true
-    → (shown (with_prefix done prefix) ++ pair_text p) ++ shown (with_prefix rest prefix) ≡ shown (with_prefix m prefix)
-shown_whole prefix m next done p rest walk has = sym (
-    ap (λ (l : Map). shown (with_prefix l prefix)) walk.whole
-    ∙ ap shown (prefix_parts prefix done (p ∷ rest) ∙ ap (λ (l : Map). with_prefix done prefix ++ l) (having prefix p rest has))
-    ∙ shown_parts (with_prefix done prefix) (p ∷ with_prefix rest prefix)
-    ∙ sym (append_assoc (shown (with_prefix done prefix)) (pair_text p) (shown (with_prefix rest prefix))))
+-- all that is printed is what was printed, the pair that is looked at, and the rest
+pub shown_whole : (prefix : List ℕ) (m done : Map) (p : List ℕ × List ℕ) (rest : Map) → Walked prefix m done (p ∷ rest) → starts_with nat_eq p.0 prefix ≡ true
+    → (shown done ++ pair_text p) ++ shown (with_prefix rest prefix) ≡ shown (with_prefix m prefix)
+shown_whole prefix m done p rest walked has = sym (
+    ap shown walked.all ∙ shown_parts done (with_prefix (p ∷ rest) prefix)
+    ∙ ap (λ (l : Map). shown done ++ shown l) (having prefix p rest has)
+    ∙ sym (append_assoc (shown done) (pair_text p) (shown (with_prefix rest prefix))))

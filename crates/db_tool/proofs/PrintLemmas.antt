@@ -1,16 +1,16 @@
 -- Output is printed part by part.
-use Rattle.std.proofs.Common.{◌≡◌, ⊎_elim, ℕ, List, [], ◌++◌, Option, None, Some, Result, Ok, Err, take, drop, refl, sym, ◌∙◌, ap, subst, append_assoc, arith}
-use Rattle.std.proofs.lemmas.List.{append-nil, take-append-drop}
-use Rattle.std.specs.Prelude.{OnOk}
+use Rattle.std.proofs.Common.{◌≡◌, ℕ, ◌+◌, ◌-◌, ◌≤◌, List, [], ◌++◌, Option, None, Some, Result, Ok, Err, length, take, drop, refl, sym, ◌∙◌, ap, subst, append_assoc, arith, length-append}
+use Rattle.std.proofs.lemmas.List.{append-nil, take-append-drop, length-take-le}
+use Rattle.std.specs.Prelude.{IsSome, OnOk}
 use Rattle.base_devices.specs.Causes.{HasCause}
 use Rattle.base_devices.specs.CrashImages.{DiskState, GoesOn, IsMoment}
-use Rattle.base_devices.specs.HostCalls.{HostState, MovesMark, told_with}
 use Rattle.base_devices.specs.Frames.{KeepsFiles}
-use Rattle.base_devices.proofs.Moments.{same_leaves}
-use Rattle.db_tool.specs.Acting.{ToldSome}
-use Rattle.db_tool.specs.Printing.{Prints, TellsOnly}
+use Rattle.base_devices.specs.HostCalls.{HostState, HostMoment, moment, MovesMark, told_with}
+use Rattle.base_devices.proofs.FrameLemmas.{only_none, only_then, only_once}
+use Rattle.db_tool.specs.Printing.{Printed, PrintsSome, PrintMoment, holding, Prints, PrintsAll}
 
--- what is told in two parts
+-- ---- what is printed in two parts
+
 pub told_none : (o : Option (List ℕ)) → o ≡ told_with o []
 told_none None = refl
 told_none (Some l) = ap Some (sym (append-nil l))
@@ -19,111 +19,147 @@ told_twice : (o : Option (List ℕ)) (a b : List ℕ) → told_with (told_with o
 told_twice None a b = refl
 told_twice (Some l) a b = ap Some (append_assoc l a b)
 
--- ---- the disk while output is told
+some_with : (o p : Option (List ℕ)) (a : List ℕ) → p ≡ told_with o a → IsSome o → IsSome p
+some_with None p a is some = absurd (cc some)
+some_with (Some l) p a is some = subst IsSome (sym is) refl
 
-pub tells_none : (s : DiskState) → IsMoment s → TellsOnly s s
-tells_none s moment = record {
-  keeps = record { reads = refl; leaves = same_leaves s; fresh = refl; written = refl; publishes = refl };
-  mark = omega arith;
-  each = record { each = λ c n left. let now = moment.now c n left in (now.0, omega (arith, now.1), omega (arith, now.1)) };
+pub printed_none : (m : HostMoment) → Printed [] m m
+printed_none m = record { told = told_none m.streams.told; warned = refl; later = omega arith; marked = λ _. omega arith }
+
+pub printed_then : (m n o : HostMoment) (a b : List ℕ) → Printed a m n → Printed b n o → Printed (a ++ b) m o
+printed_then m n o a b first second = record {
+  told = second.told ∙ ap (λ (l : Option (List ℕ)). told_with l b) first.told ∙ told_twice m.streams.told a b;
+  warned = second.warned ∙ first.warned;
+  later = omega (arith, first.later, second.later);
+  marked = λ some. omega (arith, first.marked some, second.marked (some_with m.streams.told n.streams.told a first.told some), length-append a b);
 }
 
-pub tells_then : (s t u : DiskState) → GoesOn s t → GoesOn t u → TellsOnly s t → TellsOnly t u → TellsOnly s u
-tells_then s t u st tu first second = record {
-  keeps = record {
-    reads = second.keeps.reads ∙ first.keeps.reads;
-    leaves = record { no_more = λ c left. first.keeps.leaves.no_more c (second.keeps.leaves.no_more c left); no_less = λ c left. second.keeps.leaves.no_less c (first.keeps.leaves.no_less c left) };
-    fresh = second.keeps.fresh ∙ first.keeps.fresh;
-    written = second.keeps.written ∙ first.keeps.written;
-    publishes = second.keeps.publishes ∙ first.keeps.publishes;
-  };
-  mark = omega (arith, first.mark, second.mark);
-  each = record {
-    each = λ c n left. ⊎_elim
-        (λ was. let p = first.each.each c n was in (p.0, p.1, omega (arith, p.2, second.mark)))
-        (λ since. let p = second.each.each c n since in (first.keeps.leaves.no_more c p.0, omega (arith, p.1, first.mark), p.2))
-        (tu.adds s.clock c n st.later left);
-  };
+-- a call of the disk prints nothing
+pub printed_still : (m n : HostMoment) → n.streams ≡ m.streams → n.disk.mark ≡ m.disk.mark → Printed [] m n
+printed_still m n same mark = record {
+  told = ap (λ (s : HostState). s.told) same ∙ told_none m.streams.told;
+  warned = ap (λ (s : HostState). s.warned) same;
+  later = omega (arith, mark);
+  marked = λ _. omega (arith, mark);
 }
 
-pub tells_once : {T E : Type 0} (told : Option (List ℕ)) (s t : DiskState) (bytes : List ℕ) (result : Result T E) → MovesMark told s t bytes result → KeepsFiles s t → TellsOnly s t
-tells_once told s t bytes result moves keeps = record { keeps = keeps; mark = moves.from; each = moves.each }
+pub some_none : (m n : HostMoment) (output : List ℕ) → Printed [] m n → PrintsSome output m n
+some_none m n output nothing = record { printed = []; unprinted = output; whole = refl; grew = nothing }
 
--- ---- what is told and what is held
+-- ---- what is printed and what is held
 
-pub prints_none : {T E : Type 0} (o : HostState) (s : DiskState) (held : List ℕ) (x : T) → IsMoment s → Prints {E = E} o o s s held held [] (Ok x)
-prints_none o s held x moment = record {
-  told = [];
-  left = held;
-  grew = told_none o.told;
-  whole = sym (append-nil held);
+pub prints_none : {T E : Type 0} (held : List ℕ) (s : DiskState) (o : HostState) (x : T) → IsMoment s → Prints {E = E} [] (holding held s o) (holding held s o) (Ok x)
+prints_none held s o x is = record {
+  some = record { printed = []; unprinted = held; whole = sym (append-nil held); grew = printed_none (moment s o) };
   rest = refl;
-  warned = refl;
-  disk = tells_none s moment;
+  disk = only_none s is;
   cause = record { later = omega arith; failed = tt; kept = refl };
 }
 
 -- two parts, one behind the other
-pub prints_then : {T E U F : Type 0} (o p q : HostState) (s t u : DiskState) (a b c x y : List ℕ) (v : T) (r : Result U F) → GoesOn s t → GoesOn t u → Prints {E = E} o p s t a b x (Ok v) → Prints p q t u b c y r → Prints o q s u a c (x ++ y) r
-prints_then o p q s t u a b c x y v r st tu first second = record {
-  told = first.told ++ second.told;
-  left = second.left;
-  grew = second.grew ∙ ap (λ (l : Option (List ℕ)). told_with l second.told) first.grew ∙ told_twice o.told first.told second.told;
-  whole = append_assoc first.told second.told second.left ∙ ap (λ (l : List ℕ). first.told ++ l) second.whole
-      ∙ ap (λ (l : List ℕ). first.told ++ (l ++ y)) first.rest ∙ sym (append_assoc first.told first.left y) ∙ ap (λ (l : List ℕ). l ++ y) first.whole ∙ append_assoc a x y;
+pub prints_then : {T E U F : Type 0} (m n o : PrintMoment) (x y : List ℕ) (v : T) (r : Result U F) → GoesOn m.host.disk n.host.disk → GoesOn n.host.disk o.host.disk
+    → Prints {E = E} x m n (Ok v) → Prints y n o r → Prints (x ++ y) m o r
+prints_then m n o x y v r st tu first second = record {
+  some = record {
+    printed = first.some.printed ++ second.some.printed;
+    unprinted = second.some.unprinted;
+    whole = append_assoc first.some.printed second.some.printed second.some.unprinted ∙ ap (λ (l : List ℕ). first.some.printed ++ l) second.some.whole
+        ∙ ap (λ (l : List ℕ). first.some.printed ++ (l ++ y)) first.rest ∙ sym (append_assoc first.some.printed first.some.unprinted y)
+        ∙ ap (λ (l : List ℕ). l ++ y) first.some.whole ∙ append_assoc m.held x y;
+    grew = printed_then m.host n.host o.host first.some.printed second.some.printed first.some.grew second.some.grew;
+  };
   rest = second.rest;
-  warned = second.warned ∙ first.warned;
-  disk = tells_then s t u st tu first.disk second.disk;
-  cause = subst (λ (n : ℕ). HasCause n u.faults r) first.cause.kept second.cause;
+  disk = only_then m.host.disk n.host.disk o.host.disk st tu first.disk second.disk;
+  cause = subst (λ (count : ℕ). HasCause count o.host.disk.faults r) first.cause.kept second.cause;
 }
 
 -- bytes that are held behind the others
-pub prints_held : {T E : Type 0} (o p : HostState) (s t : DiskState) (a b c x y : List ℕ) (v : T) → c ≡ b ++ y → Prints {E = E} o p s t a b x (Ok v) → Prints {E = E} o p s t a c (x ++ y) (Ok v)
-prints_held o p s t a b c x y v is first = record {
-  told = first.told;
-  left = first.left ++ y;
-  grew = first.grew;
-  whole = sym (append_assoc first.told first.left y) ∙ ap (λ (l : List ℕ). l ++ y) first.whole ∙ append_assoc a x y;
+pub prints_held : {T E : Type 0} (m n : PrintMoment) (held x y : List ℕ) (v : T) → held ≡ n.held ++ y → Prints {E = E} x m n (Ok v)
+    → Prints {E = E} (x ++ y) m (record { held = held; host = n.host }) (Ok v)
+prints_held m n held x y v is first = record {
+  some = record {
+    printed = first.some.printed;
+    unprinted = first.some.unprinted ++ y;
+    whole = sym (append_assoc first.some.printed first.some.unprinted y) ∙ ap (λ (l : List ℕ). l ++ y) first.some.whole ∙ append_assoc m.held x y;
+    grew = first.some.grew;
+  };
   rest = is ∙ ap (λ (l : List ℕ). l ++ y) first.rest;
-  warned = first.warned;
   disk = first.disk;
   cause = first.cause;
 }
 
--- a tell that failed
-pub prints_failed : {T E : Type 0} (o p : HostState) (s t : DiskState) (held slice : List ℕ) (k : ℕ) (fault : E) → slice ≡ held → p.told ≡ told_with o.told (take k slice) → p.warned ≡ o.warned → TellsOnly s t → HasCause {T = T} s.faults t.faults (Err fault)
-    → Prints {T = T} o p s t held held [] (Err fault)
-prints_failed o p s t held slice k fault same told warned disk cause = record {
-  told = take k held;
-  left = drop k held;
-  grew = told ∙ ap (λ (l : List ℕ). told_with o.told (take k l)) same;
-  whole = take-append-drop k held ∙ sym (append-nil held);
+-- nothing of what comes behind a failure is printed
+pub prints_ended : {T E : Type 0} (m n : PrintMoment) (x y : List ℕ) (fault : E) → Prints {T = T} x m n (Err fault) → Prints {T = T} (x ++ y) m n (Err fault)
+prints_ended m n x y fault first = record {
+  some = record {
+    printed = first.some.printed;
+    unprinted = first.some.unprinted ++ y;
+    whole = sym (append_assoc first.some.printed first.some.unprinted y) ∙ ap (λ (l : List ℕ). l ++ y) first.some.whole ∙ append_assoc m.held x y;
+    grew = first.some.grew;
+  };
   rest = tt;
-  warned = warned;
-  disk = disk;
+  disk = first.disk;
+  cause = first.cause;
+}
+
+-- a print that was done
+pub prints_done : {T E : Type 0} (held slice : List ℕ) (s t : DiskState) (o p : HostState) (x : T) → slice ≡ held → p.told ≡ told_with o.told slice → p.warned ≡ o.warned
+    → MovesMark {E = E} o.told s t slice (Ok x) → KeepsFiles s t → HasCause {E = E} s.faults t.faults (Ok x) → Prints {E = E} [] (holding held s o) (holding [] t p) (Ok x)
+prints_done held slice s t o p x same told warned moves keeps cause = record {
+  some = record {
+    printed = held;
+    unprinted = [];
+    whole = refl;
+    grew = record {
+      told = told ∙ ap (told_with o.told) same;
+      warned = warned;
+      later = moves.from;
+      marked = λ some. moves.whole some ∙ ap (λ (l : List ℕ). s.mark + length l) same;
+    };
+  };
+  rest = refl;
+  disk = only_once o.told s t slice (Ok x) moves keeps;
   cause = cause;
 }
 
--- nothing of what comes behind a failure is told
-pub prints_ended : {T E : Type 0} (o p : HostState) (s t : DiskState) (a b x y : List ℕ) (fault : E) → Prints {T = T} o p s t a b x (Err fault) → Prints {T = T} o p s t a b (x ++ y) (Err fault)
-prints_ended o p s t a b x y fault first = record {
-  told = first.told;
-  left = first.left ++ y;
-  grew = first.grew;
-  whole = sym (append_assoc first.told first.left y) ∙ ap (λ (l : List ℕ). l ++ y) first.whole ∙ append_assoc a x y;
-  rest = tt;
-  warned = first.warned;
-  disk = first.disk;
-  cause = first.cause;
+-- a print that failed
+pub prints_failed : {T E : Type 0} (held slice : List ℕ) (s t : DiskState) (o p : HostState) (fault : E) → slice ≡ held → p.told ≡ told_with o.told (take (t.mark - s.mark) slice) → p.warned ≡ o.warned
+    → MovesMark {T = T} o.told s t slice (Err fault) → KeepsFiles s t → HasCause {T = T} s.faults t.faults (Err fault) → Prints {T = T} [] (holding held s o) (holding held t p) (Err fault)
+prints_failed {T = T} held slice s t o p fault same told warned moves keeps cause =
+    let k = t.mark - s.mark in
+    let few : k ≤ length held = omega (arith, moves.from, moves.to, ap length same) in
+    record {
+      some = record {
+        printed = take k held;
+        unprinted = drop k held;
+        whole = take-append-drop k held ∙ sym (append-nil held);
+        grew = record {
+          told = told ∙ ap (λ (l : List ℕ). told_with o.told (take k l)) same;
+          warned = warned;
+          later = moves.from;
+          marked = λ some. omega (arith, moves.from, length-take-le k held few);
+        };
+      };
+      rest = tt;
+      disk = only_once {T = T} o.told s t slice (Err fault) moves keeps;
+      cause = cause;
+    }
+
+-- ---- output in full
+
+pub all_printed : {T E : Type 0} (m n : PrintMoment) (bytes output : List ℕ) (r : Result T E) → m.held ≡ [] → bytes ≡ output → OnOk r (n.held ≡ []) → Prints bytes m n r → PrintsAll output m.host n.host r
+all_printed m n bytes output (Err fault) none is empty prints = record {
+  some = record { printed = prints.some.printed; unprinted = prints.some.unprinted; whole = prints.some.whole ∙ ap (λ (l : List ℕ). l ++ bytes) none ∙ is; grew = prints.some.grew };
+  all = tt;
+  disk = prints.disk;
+  cause = prints.cause;
 }
-
--- ---- what was told at the end
-
-pub prints_told : {T E : Type 0} (o p : HostState) (s t : DiskState) (holds bytes output : List ℕ) (r : Result T E) → bytes ≡ output → Prints o p s t [] holds bytes r → ToldSome o p output
-prints_told o p s t holds bytes output r is prints = record { told = prints.told; left = prints.left; grew = prints.grew; whole = prints.whole ∙ is; warned = prints.warned }
-
-pub prints_whole : {T E : Type 0} (o p : HostState) (s t : DiskState) (holds bytes output : List ℕ) (r : Result T E) → bytes ≡ output → OnOk r (holds ≡ []) → Prints o p s t [] holds bytes r → OnOk r (p.told ≡ told_with o.told output)
-prints_whole o p s t holds bytes output (Err fault) is empty prints = tt
-prints_whole o p s t holds bytes output (Ok x) is empty prints =
-    let all : prints.told ≡ output = sym (append-nil prints.told) ∙ ap (λ (l : List ℕ). prints.told ++ l) (sym (sym prints.rest ∙ empty)) ∙ prints.whole ∙ is in
-    prints.grew ∙ ap (told_with o.told) all
+all_printed m n bytes output (Ok x) none is empty prints =
+    let whole = prints.some.whole ∙ ap (λ (l : List ℕ). l ++ bytes) none ∙ is in
+    let all : prints.some.printed ≡ output = sym (append-nil prints.some.printed) ∙ ap (λ (l : List ℕ). prints.some.printed ++ l) (sym (sym prints.rest ∙ empty)) ∙ whole in
+    record {
+      some = record { printed = prints.some.printed; unprinted = prints.some.unprinted; whole = whole; grew = prints.some.grew };
+      all = subst (λ (l : List ℕ). Printed l m.host n.host) all prints.some.grew;
+      disk = prints.disk;
+      cause = prints.cause;
+    }

@@ -1,0 +1,5 @@
+pub mod Commands
+pub mod JobOf
+pub mod Numbers
+pub mod PathsOf
+pub mod Reading
