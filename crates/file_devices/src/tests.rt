@@ -82,19 +82,68 @@ fn disk_writes_and_reads(rt: HostRuntime) -> Result<(), Fail> {
     Ok(())
 }
 
-// Offsets, what is written there, and what the file then reads.
-const WRITES: &[(u64, &str, &str)] = &[
-    (1, "a", "hallo\n"),
-    (6, "world", "hallo\nworld"),
-    (9, "d and more\n", "hallo\nword and more\n"),
-    (20, "", "hallo\nword and more\n"),
+/// What is written at an offset of the file as the row before left it, first of "hello" and a line's end.
+struct Write {
+    name: &'static str,
+    at: u64,
+    bytes: &'static str,
+    then: &'static str,
+}
+
+const WRITES: &[Write] = &[
+    Write {
+        name: "inside",
+        at: 1,
+        bytes: "a",
+        then: "hallo\n",
+    },
+    Write {
+        name: "at the end",
+        at: 6,
+        bytes: "world",
+        then: "hallo\nworld",
+    },
+    Write {
+        name: "over the end",
+        at: 9,
+        bytes: "d and more\n",
+        then: "hallo\nword and more\n",
+    },
+    Write {
+        name: "no bytes",
+        at: 20,
+        bytes: "",
+        then: "hallo\nword and more\n",
+    },
 ];
 
-// Lengths, what the file reads once it is cut to them, and what with one byte written at its end.
-const CUTS: &[(u64, &str, &str)] = &[
-    (20, "hallo\nword and more\n", "hallo\nword and more\n."),
-    (10, "hallo\nword", "hallo\nword."),
-    (0, "", "."),
+/// The file as the row before left it is cut to a length, and one byte is written at its new end.
+struct Cut {
+    name: &'static str,
+    length: u64,
+    then: &'static str,
+    longer: &'static str,
+}
+
+const CUTS: &[Cut] = &[
+    Cut {
+        name: "to its length",
+        length: 20,
+        then: "hallo\nword and more\n",
+        longer: "hallo\nword and more\n.",
+    },
+    Cut {
+        name: "inside",
+        length: 10,
+        then: "hallo\nword",
+        longer: "hallo\nword.",
+    },
+    Cut {
+        name: "to nothing",
+        length: 0,
+        then: "",
+        longer: ".",
+    },
 ];
 
 // Asserts that a disk without its file makes none.
@@ -124,9 +173,10 @@ fn assert_writes<R: Files + Abort + AllocGlobal + Drop>(
 where
     R::File: FileExt + AsRawFd,
 {
-    for (at, bytes, then) in WRITES {
-        assert_eq!(rt; disk.write_at(*at, bytes.as_bytes()), Ok(()), "at {at}");
-        assert_file(rt, "place/db", then, 0o640)?;
+    for row in WRITES {
+        let answer = disk.write_at(row.at, row.bytes.as_bytes());
+        assert_eq!(rt; answer, Ok(()), "{}", row.name);
+        assert_file(rt, "place/db", row.then, 0o640)?;
     }
     Ok(())
 }
@@ -139,11 +189,11 @@ fn assert_cuts<R: Files + Abort + AllocGlobal + Drop>(
 where
     R::File: FileExt + AsRawFd,
 {
-    for (length, then, after) in CUTS {
-        assert_eq!(rt; disk.cut(*length), Ok(()), "to {length}");
-        assert_file(rt, "place/db", then, 0o640)?;
-        assert_eq!(rt; disk.write_at(*length, b"."), Ok(()), "after {length}");
-        assert_file(rt, "place/db", after, 0o640)?;
+    for row in CUTS {
+        assert_eq!(rt; disk.cut(row.length), Ok(()), "{}", row.name);
+        assert_file(rt, "place/db", row.then, 0o640)?;
+        assert_eq!(rt; disk.write_at(row.length, b"."), Ok(()), "{}", row.name);
+        assert_file(rt, "place/db", row.longer, 0o640)?;
     }
     Ok(())
 }
@@ -172,7 +222,7 @@ const LEFT: &[(&str, &str)] = &[
 fn leave_files(rt: &(impl Files + Alloc)) -> io::Result<()> {
     begin(rt, "left")?;
     make_files(rt, LEFT)?;
-    fs::set_permissions(rt, "left/db", Permissions::from_mode(0o640))?;
+    fs::set_permissions(rt, "left/db", Permissions::from_mode(0o662))?;
     symlink(rt, "usual", "left/other.NEW")
 }
 
@@ -188,17 +238,15 @@ fn assert_rewrites<R: Files + Abort + AllocGlobal, D: Disk>(
     assert_file(rt, path, text, mode)
 }
 
+// The group's write bit and the others' stay, which a usual umask takes from a file that is made; no bit is added.
 #[test]
 fn disk_replaces_what_is_left_over(rt: HostRuntime) -> Result<(), Fail> {
     leave_files(&rt)?;
     let usual = mode_of(&rt, "left/usual")?;
-    for (path, text, mode) in [
-        ("left/db", "second", 0o640),
-        ("left/other", "beside a link", usual),
-    ] {
-        let mut disk = FileDisk::new(rt, Text::of(rt.alloc(), path)?);
-        assert_rewrites(&rt, &mut disk, path, text, mode)?;
-    }
+    let mut disk = FileDisk::new(rt, Text::of(rt.alloc(), "left/db")?);
+    assert_rewrites(&rt, &mut disk, "left/db", "second", 0o662)?;
+    let mut disk = FileDisk::new(rt, Text::of(rt.alloc(), "left/other")?);
+    assert_rewrites(&rt, &mut disk, "left/other", "beside a link", usual)?;
     assert_file(&rt, "left/usual", "usual", usual)?;
     fs::remove_dir_all(&rt, "left")?;
     Ok(())
@@ -217,17 +265,156 @@ fn disk_publishes_its_own_file_only(rt: HostRuntime) -> Result<(), Fail> {
     Ok(())
 }
 
+#[test]
+fn disk_forgets_a_new_file_that_it_cannot_begin_again(rt: HostRuntime) -> Result<(), Fail> {
+    begin(&rt, "again")?;
+    make_files(&rt, &[("again/db", "old")])?;
+    let usual = mode_of(&rt, "again/db")?;
+    let mut disk = FileDisk::new(rt, Text::of(rt.alloc(), "again/db")?);
+    assert_eq!(rt; [disk.new_start(), disk.new_write(b"new")], [Ok(()); 2]);
+    fs::remove_file(&rt, "again/db.NEW")?;
+    fs::create_dir(&rt, "again/db.NEW")?;
+    assert_eq!(rt; disk.new_start(), Err(Failed), "a folder has its name");
+    let calls = [disk.new_write(b"more"), disk.new_sync(), disk.publish()];
+    assert_eq!(rt; calls, [Err(Failed); 3]);
+    assert_file(&rt, "again/db", "old", usual)?;
+    fs::remove_dir_all(&rt, "again")?;
+    Ok(())
+}
+
 type Answer = Result<(), Failed>;
 
-// Paths, and what `length`, `sync` and `new_start` answer there.
-const KINDS: &[(&str, Result<Option<u64>, Failed>, Answer, Answer)] = &[
-    ("kinds/folder", Err(Failed), Err(Failed), Err(Failed)),
-    ("/dev/null", Err(Failed), Err(Failed), Err(Failed)),
-    ("kinds/file/below", Err(Failed), Err(Failed), Err(Failed)),
-    ("kinds/missing/db", Ok(None), Err(Failed), Err(Failed)),
-    ("kinds/dangling", Ok(None), Err(Failed), Ok(())),
-    ("kinds/folder/db", Ok(None), Err(Failed), Ok(())),
-    ("kinds/file", Ok(Some(0)), Ok(()), Ok(())),
+#[derive(Clone, Copy)]
+enum Before {
+    Nothing,
+    Sync,
+    Publish,
+}
+
+/// What a disk does before its folder is moved away, and what `sync` then answers: a fault shows that it asked for the
+/// folder.
+struct Moved {
+    name: &'static str,
+    before: Before,
+    then: Answer,
+}
+
+const MOVED: &[Moved] = &[
+    Moved {
+        name: "the first sync",
+        before: Before::Nothing,
+        then: Err(Failed),
+    },
+    Moved {
+        name: "a sync behind a sync",
+        before: Before::Sync,
+        then: Ok(()),
+    },
+    Moved {
+        name: "a sync behind a publish",
+        before: Before::Publish,
+        then: Ok(()),
+    },
+];
+
+// Opens the file, and does what comes before.
+fn prepare<R: Files + AllocGlobal + Drop>(
+    disk: &mut FileDisk<R>,
+    before: Before,
+) -> Result<Option<u64>, Failed>
+where
+    R::File: FileExt + AsRawFd,
+{
+    match before {
+        Before::Nothing => {}
+        Before::Sync => disk.sync()?,
+        Before::Publish => rewrite(disk, b"new")?,
+    }
+    disk.length()
+}
+
+#[test]
+fn sync_asks_for_the_folder_where_the_name_is_new(rt: HostRuntime) -> Result<(), Fail> {
+    for row in MOVED {
+        begin(&rt, "named")?;
+        let _ = fs::remove_dir_all(&rt, "moved");
+        make_files(&rt, &[("named/db", "old")])?;
+        let mut disk = FileDisk::new(rt, Text::of(rt.alloc(), "named/db")?);
+        assert_eq!(rt; prepare(&mut disk, row.before), Ok(Some(3)));
+        fs::rename(&rt, "named", "moved")?;
+        assert_eq!(rt; [disk.sync(), disk.sync()], [row.then; 2], "{}", row.name);
+    }
+    fs::remove_dir_all(&rt, "moved")?;
+    Ok(())
+}
+
+/// What is at a path, and what calls answer there: `length`, `sync`, `new_start`, and `write_at` and `cut`.
+struct Place {
+    name: &'static str,
+    path: &'static str,
+    length: Result<Option<u64>, Failed>,
+    sync: Answer,
+    start: Answer,
+    write: Answer,
+}
+
+const PLACES: &[Place] = &[
+    Place {
+        name: "a folder",
+        path: "kinds/folder",
+        length: Err(Failed),
+        sync: Err(Failed),
+        start: Err(Failed),
+        write: Err(Failed),
+    },
+    Place {
+        name: "a device of the system",
+        path: "/dev/null",
+        length: Err(Failed),
+        sync: Err(Failed),
+        start: Err(Failed),
+        write: Err(Failed),
+    },
+    Place {
+        name: "a file where a folder is to be",
+        path: "kinds/file/below",
+        length: Err(Failed),
+        sync: Err(Failed),
+        start: Err(Failed),
+        write: Err(Failed),
+    },
+    Place {
+        name: "nothing, in no folder",
+        path: "kinds/missing/db",
+        length: Ok(None),
+        sync: Err(Failed),
+        start: Err(Failed),
+        write: Err(Failed),
+    },
+    Place {
+        name: "a link to nothing",
+        path: "kinds/dangling",
+        length: Ok(None),
+        sync: Err(Failed),
+        start: Ok(()),
+        write: Err(Failed),
+    },
+    Place {
+        name: "nothing, in a folder",
+        path: "kinds/folder/db",
+        length: Ok(None),
+        sync: Err(Failed),
+        start: Ok(()),
+        write: Err(Failed),
+    },
+    Place {
+        name: "an empty file",
+        path: "kinds/file",
+        length: Ok(Some(0)),
+        sync: Ok(()),
+        start: Ok(()),
+        write: Ok(()),
+    },
 ];
 
 // A folder, an empty file, and a link to nothing.
@@ -241,11 +428,14 @@ fn make_kinds(rt: &(impl Files + Alloc)) -> io::Result<()> {
 #[test]
 fn host_refuses_what_is_no_file(rt: HostRuntime) -> Result<(), Fail> {
     make_kinds(&rt)?;
-    for (path, length, sync, start) in KINDS {
-        let mut host = FileHost::new(rt, Text::of(rt.alloc(), path)?);
-        assert_eq!(rt; host.length(), *length, "{path}");
+    for place in PLACES {
+        let mut host = FileHost::new(rt, Text::of(rt.alloc(), place.path)?);
+        assert_eq!(rt; host.length(), place.length, "{}", place.name);
         let calls = [host.sync(), host.new_sync(), host.new_start()];
-        assert_eq!(rt; calls, [*sync, Err(Failed), *start], "{path}");
+        let wanted = [place.sync, Err(Failed), place.start];
+        assert_eq!(rt; calls, wanted, "{}", place.name);
+        let writes = [host.write_at(0, b"x"), host.cut(0)];
+        assert_eq!(rt; writes, [place.write; 2], "{}", place.name);
     }
     fs::remove_dir_all(&rt, "kinds")?;
     Ok(())
@@ -257,22 +447,9 @@ fn host_rewrites_and_prints(rt: HostRuntime) -> Result<(), Fail> {
     let mut host = FileHost::new(rt, Text::of(rt.alloc(), "prints/db")?);
     assert_eq!(rt; rewrite(&mut host, b"bytes"), Ok(()));
     assert_eq!(rt; host.length(), Ok(Some(5)));
-    assert_eq!(rt; host.tell(b"told \xff\n"), Ok(()));
+    assert_eq!(rt; host.tell(b"printed \xff\n"), Ok(()));
     host.warn(b"warned \xff\n");
     fs::remove_dir_all(&rt, "prints")?;
-    Ok(())
-}
-
-#[test]
-fn host_refuses_to_write_in_place(rt: HostRuntime) -> Result<(), Fail> {
-    begin(&rt, "odd")?;
-    fs::create_dir(&rt, "odd/folder")?;
-    for path in ["odd/folder", "/dev/null", "odd/missing"] {
-        let mut host = FileHost::new(rt, Text::of(rt.alloc(), path)?);
-        let calls = [host.write_at(0, b"x"), host.cut(0)];
-        assert_eq!(rt; calls, [Err(Failed); 2], "{path}");
-    }
-    fs::remove_dir_all(&rt, "odd")?;
     Ok(())
 }
 

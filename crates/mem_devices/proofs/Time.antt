@@ -4,7 +4,7 @@ use Rattle.base_devices.specs.CrashImages.{GoesOn, Image, Fresh, LeavesOnly}
 use Rattle.base_devices.specs.DiskCalls.{DiskCall}
 use Rattle.base_devices.specs.Frames.{KeepsFiles}
 use Rattle.std.proofs.lemmas.List.Sums.{fold-append}
-use Rattle.mem_devices.specs.Past.{LeftSince, replay_now, replay_keeps, replay_adds, replay_counts, replay_earlier, after}
+use Rattle.mem_devices.specs.Past.{LeftSince, past_now, past_keeps, past_adds, past_counts, past_earlier, after}
 use Rattle.mem_devices.specs.Memory.{state_of}
 use Rattle.mem_devices.specs.History.{Moment, Step, kept, output, moment_step, moment_after, IsImage, mark_of}
 
@@ -20,15 +20,15 @@ module _ (start : Moment) where
   one_more : (old : List Step) (e : Step) → Time old (old ++ e ∷ [])
   one_more old e = (
     omega (arith, length-append old (e ∷ [])),
-    λ t c n _ left. replay_keeps moment_step IsImage mark_of start old e t c n left,
-    λ t c n _ left. ⊎_elim (λ was. inl was) (λ now. inr (last c n now)) (replay_adds moment_step IsImage mark_of start old e t c n left),
+    λ t c n _ left. past_keeps moment_step IsImage mark_of start old e t c n left,
+    λ t c n _ left. ⊎_elim (λ was. inl was) (λ now. inr (last c n now)) (past_adds moment_step IsImage mark_of start old e t c n left),
   )
     where
       last : (c : Image) (n : ℕ) → IsImage (after moment_step IsImage mark_of start (old ++ e ∷ [])) c × (n ≡ mark_of (after moment_step IsImage mark_of start (old ++ e ∷ []))) → Left (old ++ e ∷ []) (length old) c n
       last c n now =
-          let left = replay_counts moment_step IsImage mark_of start (old ++ e ∷ []) c now.0 in
+          let left = past_counts moment_step IsImage mark_of start (old ++ e ∷ []) c now.0 in
           subst (λ (k : ℕ). Left (old ++ e ∷ []) (length old) c k) (sym now.1)
-          (replay_earlier moment_step IsImage mark_of start (old ++ e ∷ []) (length old) (length (old ++ e ∷ [])) c _ (omega (arith, length-append old (e ∷ []))) left)
+          (past_earlier moment_step IsImage mark_of start (old ++ e ∷ []) (length old) (length (old ++ e ∷ [])) c _ (omega (arith, length-append old (e ∷ []))) left)
 
   no_more : (old : List Step) → Time old old
   no_more old = (omega arith, λ t c n _ left. left, λ t c n _ left. inl left)
@@ -71,7 +71,7 @@ pub call_one_more : (start : Moment) (old new : List Step) (e : Step) (fresh fre
 call_one_more start old new e fresh fresh' faults faults' written written' publishes publishes' noted kept_mark =
     subst (λ (es : List Step). DiskCall (state_of start old fresh faults written publishes) (state_of start es fresh' faults' written' publishes')) (sym noted) (record {
       mark = same_mark;
-      each = record { each = λ c n left. ⊎_elim (before c n) (λ now. (now.1 ∙ same_mark, inr now.0)) (replay_adds moment_step IsImage mark_of start old e (length old) c n left) };
+      each = record { each = λ c n left. ⊎_elim (before c n) (λ now. (now.1 ∙ same_mark, inr now.0)) (past_adds moment_step IsImage mark_of start old e (length old) c n left) };
       stands = λ same. absurd (omega (arith, same, length-append old (e ∷ [])));
     })
   where
@@ -79,14 +79,14 @@ call_one_more start old new e fresh fresh' faults faults' written written' publi
     same_mark = ap mark_of (after_one start old (old ++ e ∷ []) e refl) ∙ kept_mark
 
     before : (c : Image) (n : ℕ) → LeftSince moment_step IsImage mark_of start old (length old) c n → (n ≡ (moment_after start old).mark) × (IsImage (moment_after start old) c ⊎ IsImage (moment_after start (old ++ e ∷ [])) c)
-    before c n was = let now = replay_now moment_step IsImage mark_of start old c n was in (now.1, inl now.0)
+    before c n was = let now = past_now moment_step IsImage mark_of start old c n was in (now.1, inl now.0)
 
 -- a print notes one step, and leaves what could be left before with a mark from the old one to the new one
 pub print_one_more : (start : Moment) (old new : List Step) (count : ℕ) (fresh fresh' : Option Fresh) (faults faults' written written' publishes publishes' : ℕ) → new ≡ old ++ output count ∷ []
     → LeavesOnly (state_of start old fresh faults written publishes) (state_of start new fresh' faults' written' publishes') (λ c n. IsImage (moment_after start old) c × ((moment_after start old).mark ≤ n) × (n ≤ (moment_after start new).mark))
 print_one_more start old new count fresh fresh' faults faults' written written' publishes publishes' noted =
     subst (λ (es : List Step). LeavesOnly (state_of start old fresh faults written publishes) (state_of start es fresh' faults' written' publishes') (λ c n. IsImage (moment_after start old) c × ((moment_after start old).mark ≤ n) × (n ≤ (moment_after start es).mark))) (sym noted)
-    (record { each = λ c n left. ⊎_elim (before c n) (now c n) (replay_adds moment_step IsImage mark_of start old (output count) (length old) c n left) })
+    (record { each = λ c n left. ⊎_elim (before c n) (now c n) (past_adds moment_step IsImage mark_of start old (output count) (length old) c n left) })
   where
     played : moment_after start (old ++ output count ∷ []) ≡ moment_step (moment_after start old) (output count)
     played = after_one start old (old ++ output count ∷ []) (output count) refl
@@ -95,7 +95,7 @@ print_one_more start old new count fresh fresh' faults faults' written written' 
     moved = ap mark_of played
 
     before : (c : Image) (n : ℕ) → LeftSince moment_step IsImage mark_of start old (length old) c n → IsImage (moment_after start old) c × ((moment_after start old).mark ≤ n) × (n ≤ (moment_after start (old ++ output count ∷ [])).mark)
-    before c n was = let left = replay_now moment_step IsImage mark_of start old c n was in (left.0, omega (arith, left.1), omega (arith, left.1, moved))
+    before c n was = let left = past_now moment_step IsImage mark_of start old c n was in (left.0, omega (arith, left.1), omega (arith, left.1, moved))
 
     now : (c : Image) (n : ℕ) → IsImage (moment_after start (old ++ output count ∷ [])) c × (n ≡ mark_of (moment_after start (old ++ output count ∷ []))) → IsImage (moment_after start old) c × ((moment_after start old).mark ≤ n) × (n ≤ (moment_after start (old ++ output count ∷ [])).mark)
     now c n left = (subst (λ (m : Moment). IsImage m c) played left.0, omega (arith, left.1, moved), omega (arith, left.1))

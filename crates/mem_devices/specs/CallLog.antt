@@ -75,7 +75,12 @@ asked_of log is_stopped done failed bytes = record {
 
 -- a print of so many bytes, of which none is printed where it fails
 abbrev pub print_asked : Bool → ℕ → Asked
-print_asked is_refused count = record { refused = IsTrue is_refused; done = output count; failed = output 0; cost = 64 }
+print_asked is_refused count = record {
+  refused = IsTrue is_refused;
+  done = output count;
+  failed = output 0;
+  cost = 64;
+}
 
 -- a call that is served: its step is noted
 pub record ServesCall (asked : Asked) (old new : CallLog) : Type 0 where

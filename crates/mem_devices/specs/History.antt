@@ -93,7 +93,14 @@ pub record Moment : Type 0 where
 
 -- at first this image is on the disk, nothing has landed since, and nothing was printed
 abbrev pub first_moment : Image → Moment
-first_moment image = record { reads = image; base = image; pending = []; landings = 0; mark = 0; new_bytes = [] }
+first_moment image = record {
+  reads = image;
+  base = image;
+  pending = [];
+  landings = 0;
+  mark = 0;
+  new_bytes = [];
+}
 
 -- a write is pending, unless it has no bytes
 abbrev pub with_write : ℕ → List ℕ → List Change → List Change
@@ -105,13 +112,33 @@ abbrev pub moment_step : Moment → Step → Moment
 moment_step m kept = m
 moment_step m new_begun = record m { new_bytes = [] }
 moment_step m (new_extended bytes) = record m { new_bytes = m.new_bytes ++ bytes }
-moment_step m (main_written at bytes) = record m { reads = option_map (written_at at bytes) m.reads; pending = with_write at bytes m.pending; landings = m.landings + line_count_of at (length bytes) }
-moment_step m (write_pending at bytes) = record m { pending = with_write at bytes m.pending; landings = m.landings + line_count_of at (length bytes) }
-moment_step m (main_cut to) = record m { reads = option_map (λ b. take to b) m.reads; pending = shortened to ∷ m.pending; landings = m.landings + 1 }
+moment_step m (main_written at bytes) = record m {
+  reads = option_map (written_at at bytes) m.reads;
+  pending = with_write at bytes m.pending;
+  landings = m.landings + line_count_of at (length bytes);
+}
+moment_step m (write_pending at bytes) = record m {
+  pending = with_write at bytes m.pending;
+  landings = m.landings + line_count_of at (length bytes);
+}
+moment_step m (main_cut to) = record m {
+  reads = option_map (λ b. take to b) m.reads;
+  pending = shortened to ∷ m.pending;
+  landings = m.landings + 1;
+}
 moment_step m (cut_pending to) = record m { pending = shortened to ∷ m.pending; landings = m.landings + 1 }
 moment_step m main_synced = record m { base = m.reads; pending = [] }
-moment_step m new_published = record m { reads = Some m.new_bytes; base = Some m.new_bytes; pending = []; landings = m.landings + 1; new_bytes = [] }
-moment_step m publish_pending = record m { pending = replaced m.new_bytes ∷ m.pending; landings = m.landings + 1 }
+moment_step m new_published = record m {
+  reads = Some m.new_bytes;
+  base = Some m.new_bytes;
+  pending = [];
+  landings = m.landings + 1;
+  new_bytes = [];
+}
+moment_step m publish_pending = record m {
+  pending = replaced m.new_bytes ∷ m.pending;
+  landings = m.landings + 1;
+}
 moment_step m (output count) = record m { mark = m.mark + count }
 
 -- a change landed, whole, in part or not at all

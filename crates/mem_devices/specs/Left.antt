@@ -24,8 +24,11 @@ is_landed (b ∷ landed) = b
 abbrev pub with_lines : ℕ → List ℕ → List Bool → List ℕ → List ℕ
 with_lines at bytes [] old = old
 with_lines at [] (b ∷ landed) old = old
-with_lines at (c ∷ bytes) (true ∷ landed) old = with_lines (line_end at) (drop (line_end at - at) (c ∷ bytes)) landed (laid_at at (take (line_end at - at) (c ∷ bytes)) old)
-with_lines at (c ∷ bytes) (false ∷ landed) old = with_lines (line_end at) (drop (line_end at - at) (c ∷ bytes)) landed old
+with_lines at (c ∷ bytes) (true ∷ landed) old =
+    with_lines (line_end at) (drop (line_end at - at) (c ∷ bytes)) landed
+    (laid_at at (take (line_end at - at) (c ∷ bytes)) old)
+with_lines at (c ∷ bytes) (false ∷ landed) old =
+    with_lines (line_end at) (drop (line_end at - at) (c ∷ bytes)) landed old
 
 -- the main file with what landed of a change
 abbrev pub with_change : Change → List Bool → Image → Image
@@ -36,7 +39,8 @@ with_change (replaced bytes) landed image = if is_landed landed then Some bytes 
 -- the image with what landed of these changes, the newest first, where the list goes from the oldest landing on
 abbrev pub with_changes : Image → List Change → List Bool → Image
 with_changes base [] landed = base
-with_changes base (change ∷ older) landed = with_change change (drop (landing_count older) landed) (with_changes base older landed)
+with_changes base (change ∷ older) landed =
+    with_change change (drop (landing_count older) landed) (with_changes base older landed)
 
 -- what a crash of the disk leaves where just these of its pending landings landed
 abbrev pub left_image : MemDisk → List Bool → Image

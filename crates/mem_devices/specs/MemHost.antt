@@ -22,7 +22,11 @@ warned_whole false bytes = Some bytes
 
 -- what was printed
 abbrev pub host_streams : MemHost → HostState
-host_streams h = record { told = Some h.told.items; warned = warned_whole h.is_cut h.warned.items; tell_faults = h.tell_faults }
+host_streams h = record {
+  told = Some h.told.items;
+  warned = warned_whole h.is_cut h.warned.items;
+  tell_faults = h.tell_faults;
+}
 
 -- the bytes printed to standard error that the host has room for
 abbrev pub warned_kept : MemHost → List ℕ
@@ -34,7 +38,7 @@ tell_fail_list h = h.tell_fails.items
 
 -- the number of the next print
 abbrev pub next_print : MemHost → ℕ
-next_print h = min (h.tells + 1) (2 ^ 64 - 1)
+next_print h = min (h.prints + 1) (2 ^ 64 - 1)
 
 -- how many bytes each of the two streams has room for in all
 abbrev pub stream_room : MemHost → ℕ
@@ -50,14 +54,20 @@ warning_spare h = h.room - vec_len h.warned
 
 -- the next print is to fail by the list, the disk's stop is met, or there is no room in the record or for its bytes
 abbrev pub CannotPrint : MemHost → ℕ → Type 0
-CannotPrint h count = Contains (tell_fail_list h) (next_print h) ⊎ IsStopped h.disk 0 ⊎ (record_spare h.disk < 64) ⊎ (stream_spare h < count)
+CannotPrint h count =
+    Contains (tell_fail_list h) (next_print h)
+    ⊎ IsStopped h.disk 0
+    ⊎ (record_spare h.disk < 64)
+    ⊎ (stream_spare h < count)
 
 -- a print has its number, and takes 64 bytes of the record where record and stream have room, and none otherwise
 pub record CountsPrint (old new : MemHost) (count : ℕ) : Type 0 where
   pub next : next_print new ≡ min (next_print old + 1) (2 ^ 64 - 1)
   pub calls : next_call (disk_of new) ≡ next_call (disk_of old)
-  pub covered : 64 ≤ record_spare (disk_of old) → count ≤ stream_spare old → record_spare (disk_of new) + 64 ≡ record_spare (disk_of old)
-  pub lacking : (record_spare (disk_of old) < 64) ⊎ (stream_spare old < count) → record_spare (disk_of new) ≡ record_spare (disk_of old)
+  pub covered : 64 ≤ record_spare (disk_of old) → count ≤ stream_spare old
+      → record_spare (disk_of new) + 64 ≡ record_spare (disk_of old)
+  pub lacking : (record_spare (disk_of old) < 64) ⊎ (stream_spare old < count)
+      → record_spare (disk_of new) ≡ record_spare (disk_of old)
 
 -- what every step keeps of a host in memory
 pub record HostRest (old new : MemHost) : Type 0 where
@@ -70,17 +80,26 @@ pub record HostDiskRest (old new : MemHost) : Type 0 where
   pub host : HostRest old new
   pub streams : host_streams new ≡ host_streams old
   pub warned : warned_kept new ≡ warned_kept old
-  pub tells : next_print new ≡ next_print old
+  pub prints : next_print new ≡ next_print old
 
 -- what steps keep of a host passes on from step to step
 pub host_rest_same : (h : MemHost) → HostRest h h
 host_rest_same h = record { disk = mem_rest_same h.disk; fails = refl; room = refl }
 
 pub host_rest_then : (a b c : MemHost) → HostRest a b → HostRest b c → HostRest a c
-host_rest_then a b c ab bc = record { disk = mem_rest_then a.disk b.disk c.disk ab.disk bc.disk; fails = bc.fails ∙ ab.fails; room = bc.room ∙ ab.room }
+host_rest_then a b c ab bc = record {
+  disk = mem_rest_then a.disk b.disk c.disk ab.disk bc.disk;
+  fails = bc.fails ∙ ab.fails;
+  room = bc.room ∙ ab.room;
+}
 
 pub host_disk_same : (h : MemHost) → HostDiskRest h h
-host_disk_same h = record { host = host_rest_same h; streams = refl; warned = refl; tells = refl }
+host_disk_same h = record { host = host_rest_same h; streams = refl; warned = refl; prints = refl }
 
 pub host_disk_then : (a b c : MemHost) → HostDiskRest a b → HostDiskRest b c → HostDiskRest a c
-host_disk_then a b c ab bc = record { host = host_rest_then a b c ab.host bc.host; streams = bc.streams ∙ ab.streams; warned = bc.warned ∙ ab.warned; tells = bc.tells ∙ ab.tells }
+host_disk_then a b c ab bc = record {
+  host = host_rest_then a b c ab.host bc.host;
+  streams = bc.streams ∙ ab.streams;
+  warned = bc.warned ∙ ab.warned;
+  prints = bc.prints ∙ ab.prints;
+}

@@ -6,7 +6,7 @@ use Rattle.base_devices.specs.DiskCalls.{OnFile, new_image}
 use Rattle.base_bytes.specs.Landing.{Lands, Shortens}
 use Rattle.base_devices.specs.Frames.{KeepsFiles}
 use Rattle.base_devices.specs.Time.{goes_same, goes_then}
-use Rattle.mem_devices.specs.Past.{LeftSince, replay_now, replay_counts, replay_earlier}
+use Rattle.mem_devices.specs.Past.{LeftSince, past_now, past_counts, past_earlier}
 use Rattle.mem_devices.specs.History.{Step, Moment, landing_count, moment_step, first_moment, moment_after, IsImage, mark_of, start_image, fresh_of}
 use Rattle.mem_devices.specs.Landings.{line_count_of, first_bytes_of, landings_before, PassesStop}
 use Rattle.mem_devices.specs.CallLog.{log_steps, log_spare, log_next, last_moment}
@@ -30,7 +30,9 @@ state_of start steps fresh faults written publishes =
 
 -- what the disk reads, may leave and counts
 abbrev pub mem_state : MemDisk → DiskState
-mem_state d = state_of (first_moment (start_image d.start)) (log_steps d.log) (fresh_of d.new_file d.new_bytes.items) d.log.faults d.written d.publishes
+mem_state d =
+    state_of (first_moment (start_image d.start)) (log_steps d.log) (fresh_of d.new_file d.new_bytes.items)
+    d.log.faults d.written d.publishes
 
 -- what stands now
 abbrev pub now_of : MemDisk → Moment
@@ -41,9 +43,9 @@ pub mem_moment : (d : MemDisk) → IsMoment (mem_state d)
 mem_moment d =
     let start = first_moment (start_image d.start) in
     record {
-      now = λ c n left. replay_now moment_step IsImage mark_of start (log_steps d.log) c n left;
-      counts_now = λ c left. replay_counts moment_step IsImage mark_of start (log_steps d.log) c left;
-      earlier = λ t u c n le _ left. replay_earlier moment_step IsImage mark_of start (log_steps d.log) t u c n le left;
+      now = λ c n left. past_now moment_step IsImage mark_of start (log_steps d.log) c n left;
+      counts_now = λ c left. past_counts moment_step IsImage mark_of start (log_steps d.log) c left;
+      earlier = λ t u c n le _ left. past_earlier moment_step IsImage mark_of start (log_steps d.log) t u c n le left;
       reads_left = λ c is. inl (cc);
       tells = λ t c n left. refl;
     }
@@ -76,7 +78,7 @@ landings_pending d = landing_count (now_of d).pending
 abbrev pub stop_of : MemDisk → Option ℕ
 stop_of d = d.landings.stop
 
--- A disk of which no call was made: it holds this main file, all of it synced, and has room for so many bytes, and no stop.
+-- A disk of which no call was made: it holds this main file, all of it synced, has room for so many bytes, and no stop.
 pub record IsNewDisk (d : MemDisk) (image : Image) (size : ℕ) : Type 0 where
   pub reads : (mem_state d).reads ≡ Some image
   pub durable : IsDurable (mem_state d)
@@ -127,7 +129,8 @@ CannotWrite d at size = IsRefused d (line_count_of at size) ⊎ (HasWriteRoom d 
 
 -- a call with room makes its landings, so many, up to the stop
 pub record MakesLandings (old new : MemDisk) (fits : Type 0) (count : ℕ) : Type 0 where
-  pub covered : fits → landings_made new ≡ landings_made old + landings_before (stop_of old) (landings_made old) count
+  pub covered : fits
+      → landings_made new ≡ landings_made old + landings_before (stop_of old) (landings_made old) count
   pub lacking : (fits → ⊥) → landings_made new ≡ landings_made old
 
 -- room of the record is taken where there is room for the call, and none otherwise
@@ -153,11 +156,13 @@ pub record Pends (old new : MemDisk) (fits : Type 0) (makes : Image → Image �
   pub reads : (mem_state new).reads ≡ (mem_state old).reads
   pub keeps : (c : Image) → (mem_state old).leaves c → (mem_state new).leaves c
   pub adds : fits → (b c : Image) → (mem_state old).leaves b → makes b c → (mem_state new).leaves c
-  pub only : (c : Image) → (mem_state new).leaves c → (mem_state old).leaves c ⊎ ((b : Image) × (mem_state old).leaves b × makes b c)
+  pub only : (c : Image) → (mem_state new).leaves c
+      → (mem_state old).leaves c ⊎ ((b : Image) × (mem_state old).leaves b × makes b c)
 
 -- how many of a write's bytes lie in lines before the stop
 abbrev pub bytes_before_stop : MemDisk → ℕ → ℕ → ℕ
-bytes_before_stop d at size = first_bytes_of at size (landings_before (stop_of d) (landings_made d) (line_count_of at size))
+bytes_before_stop d at size =
+    first_bytes_of at size (landings_before (stop_of d) (landings_made d) (line_count_of at size))
 
 -- some bytes of the write are before the stop, and land
 abbrev pub MakesLines : MemDisk → ℕ → List ℕ → Image → Image → Type 0
@@ -171,17 +176,22 @@ WritePends old new at bytes = Pends old new (HasWriteRoom old at (length bytes))
 
 -- a failed cut
 abbrev pub CutPends : MemDisk → MemDisk → ℕ → Type 0
-CutPends old new to = Pends old new (HasLandingRoom old) (λ b c. (IsStopped old 1 → ⊥) × OnFile (λ was is. Shortens was to is) b c)
+CutPends old new to =
+    Pends old new (HasLandingRoom old)
+    (λ b c. (IsStopped old 1 → ⊥) × OnFile (λ was is. Shortens was to is) b c)
 
 -- a failed publish
 abbrev pub PublishPends : MemDisk → MemDisk → Type 0
-PublishPends old new = Pends old new (HasLandingRoom old) (λ b c. (IsStopped old 1 → ⊥) × (new_image (mem_state old).fresh ≡ Some c))
+PublishPends old new =
+    Pends old new (HasLandingRoom old)
+    (λ b c. (IsStopped old 1 → ⊥) × (new_image (mem_state old).fresh ≡ Some c))
 
 -- all but the stop is as before
 pub record SameButStop (old new : MemDisk) : Type 0 where
   pub now : now_of new ≡ now_of old
   pub time : (mem_state new).clock ≡ (mem_state old).clock
-  pub left_since : (t : ℕ) (c : Image) (n : ℕ) → (mem_state new).left_since t c n ↔ (mem_state old).left_since t c n
+  pub left_since : (t : ℕ) (c : Image) (n : ℕ)
+      → (mem_state new).left_since t c n ↔ (mem_state old).left_since t c n
   pub fresh : (mem_state new).fresh ≡ (mem_state old).fresh
   pub faults : (mem_state new).faults ≡ (mem_state old).faults
   pub written : (mem_state new).written ≡ (mem_state old).written
@@ -195,7 +205,8 @@ pub record SameButStop (old new : MemDisk) : Type 0 where
 pub record NotesPrint {T E : Type 0} (old new : MemDisk) (count : ℕ) (result : Result T E) : Type 0 where
   pub ok : OnOk result ((mem_state new).mark ≡ (mem_state old).mark + count)
   pub err : OnErr result ((mem_state new).mark ≡ (mem_state old).mark)
-  pub each : LeavesOnly (mem_state old) (mem_state new) (λ c n. (mem_state old).leaves c × ((mem_state old).mark ≤ n) × (n ≤ (mem_state new).mark))
+  pub each : LeavesOnly (mem_state old) (mem_state new)
+      (λ c n. (mem_state old).leaves c × ((mem_state old).mark ≤ n) × (n ≤ (mem_state new).mark))
   pub stands : (mem_state new).clock ≡ (mem_state old).clock → (mem_state new).mark ≡ (mem_state old).mark
   pub keeps : KeepsFiles (mem_state old) (mem_state new)
   pub next : next_call new ≡ next_call old
@@ -206,4 +217,9 @@ pub mem_rest_same : (d : MemDisk) → MemRest d d
 mem_rest_same d = record { time = goes_same (mem_state d); fails = refl; room = refl; stop = refl }
 
 pub mem_rest_then : (a b c : MemDisk) → MemRest a b → MemRest b c → MemRest a c
-mem_rest_then a b c ab bc = record { time = goes_then (mem_state a) (mem_state b) (mem_state c) (mem_moment c) ab.time bc.time; fails = cc (ab.fails, bc.fails); room = cc (ab.room, bc.room); stop = cc (ab.stop, bc.stop) }
+mem_rest_then a b c ab bc = record {
+  time = goes_then (mem_state a) (mem_state b) (mem_state c) (mem_moment c) ab.time bc.time;
+  fails = cc (ab.fails, bc.fails);
+  room = cc (ab.room, bc.room);
+  stop = cc (ab.stop, bc.stop);
+}

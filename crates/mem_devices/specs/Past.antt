@@ -17,13 +17,13 @@ module _ {M E : Type 0} (step : M → E → M) (may_leave : M → Image → Type
     pub leaves : may_leave (after start (take count events)) c
     pub mark : n ≡ mark_of (after start (take count events))
 
-  pub replay_now : (start : M) (events : List E) (c : Image) (n : ℕ) → LeftSince start events (length events) c n → may_leave (after start events) c × (n ≡ mark_of (after start events))
-  replay_now start events c n left =
+  pub past_now : (start : M) (events : List E) (c : Image) (n : ℕ) → LeftSince start events (length events) c n → may_leave (after start events) c × (n ≡ mark_of (after start events))
+  past_now start events c n left =
       let all : take left.count events ≡ events = take_all left.count events (omega arith) in
       (subst (λ (es : List E). may_leave (after start es) c) all left.leaves, left.mark ∙ ap (λ (es : List E). mark_of (after start es)) all)
 
-  pub replay_counts : (start : M) (events : List E) (c : Image) → may_leave (after start events) c → LeftSince start events (length events) c (mark_of (after start events))
-  replay_counts start events c left =
+  pub past_counts : (start : M) (events : List E) (c : Image) → may_leave (after start events) c → LeftSince start events (length events) c (mark_of (after start events))
+  past_counts start events c left =
       let all : take (length events) events ≡ events = take_all (length events) events (omega arith) in
       record {
         count = length events;
@@ -33,12 +33,12 @@ module _ {M E : Type 0} (step : M → E → M) (may_leave : M → Image → Type
         mark = ap (λ (es : List E). mark_of (after start es)) (sym all);
       }
 
-  pub replay_earlier : (start : M) (events : List E) (t u : ℕ) (c : Image) (n : ℕ) → t ≤ u → LeftSince start events u c n → LeftSince start events t c n
-  replay_earlier start events t u c n le left = record { count = left.count; from = omega arith; to = left.to; leaves = left.leaves; mark = left.mark }
+  pub past_earlier : (start : M) (events : List E) (t u : ℕ) (c : Image) (n : ℕ) → t ≤ u → LeftSince start events u c n → LeftSince start events t c n
+  past_earlier start events t u c n le left = record { count = left.count; from = omega arith; to = left.to; leaves = left.leaves; mark = left.mark }
 
   -- one event more
-  pub replay_keeps : (start : M) (events : List E) (e : E) (t : ℕ) (c : Image) (n : ℕ) → LeftSince start events t c n → LeftSince start (events ++ e ∷ []) t c n
-  replay_keeps start events e t c n left =
+  pub past_keeps : (start : M) (events : List E) (e : E) (t : ℕ) (c : Image) (n : ℕ) → LeftSince start events t c n → LeftSince start (events ++ e ∷ []) t c n
+  past_keeps start events e t c n left =
       let same : take left.count (events ++ e ∷ []) ≡ take left.count events = take-append-le left.count events (e ∷ []) left.to in
       record {
         count = left.count;
@@ -49,9 +49,9 @@ module _ {M E : Type 0} (step : M → E → M) (may_leave : M → Image → Type
       }
 
   -- since some time t of the past: an old pair, or one that stands after the last event
-  pub replay_adds : (start : M) (events : List E) (e : E) (t : ℕ) (c : Image) (n : ℕ) → LeftSince start (events ++ e ∷ []) t c n
+  pub past_adds : (start : M) (events : List E) (e : E) (t : ℕ) (c : Image) (n : ℕ) → LeftSince start (events ++ e ∷ []) t c n
       → LeftSince start events t c n ⊎ (may_leave (after start (events ++ e ∷ [])) c × (n ≡ mark_of (after start (events ++ e ∷ []))))
-  replay_adds start events e t c n left = elim (le_or_past left.count (length events)) [
+  past_adds start events e t c n left = elim (le_or_past left.count (length events)) [
     | inl le ↦ let same : take left.count (events ++ e ∷ []) ≡ take left.count events = take-append-le left.count events (e ∷ []) le in
         inl (record {
           count = left.count;

@@ -22,7 +22,7 @@ pub struct MemHost {
     warned: Vec<u8>,
     is_cut: bool,
     tell_fails: Vec<u64>,
-    tells: u64,
+    prints: u64,
     tell_faults: u64,
     room: u64,
     ghost told_fits: { vec_len told ≤ room },
@@ -60,7 +60,7 @@ impl MemHost {
             warned,
             is_cut: false,
             tell_fails,
-            tells: 0,
+            prints: 0,
             tell_faults: 0,
             room,
         })
@@ -299,8 +299,8 @@ impl Host for MemHost {
             (host_streams self.new).tell_faults result }
         ensures rest { HostRest self.old self.new }
     {
-        self.tells = self.tells.saturating_add(1);
-        let is_listed = is_listed(&self.tell_fails, self.tells);
+        self.prints = self.prints.saturating_add(1);
+        let is_listed = is_listed(&self.tell_fails, self.prints);
         if self.room as usize - self.told.len() < bytes.len() {
             let _ = self.disk.refuse_print();
             self.tell_faults = self.tell_faults.saturating_add(1);
@@ -321,7 +321,7 @@ impl Host for MemHost {
         ensures kept { warned_kept self.new
             ≡ warned_kept self.old ++ take (warning_spare self.old) bytes.now }
         ensures whole { disk_of self.new ≡ disk_of self.old }
-        ensures tells { next_print self.new ≡ next_print self.old }
+        ensures next { next_print self.new ≡ next_print self.old }
         ensures warned { ((host_streams self.new).warned
             ≡ told_with (host_streams self.old).warned bytes.now)
             ⊎ ((host_streams self.new).warned ≡ None) }
