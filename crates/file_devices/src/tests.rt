@@ -3,6 +3,7 @@ use crate::{FileDisk, FileHost};
 use base_bytes::Text;
 use base_devices::{Disk, Failed, Host};
 use std::fs::Permissions;
+use std::io::{Eprint, Print};
 use std::os::fd::AsRawFd;
 use std::os::unix::fs::{FileExt, MetadataExt, PermissionsExt, symlink};
 use std::process::Abort;
@@ -48,8 +49,7 @@ fn mode_of(rt: &impl Files, path: &str) -> io::Result<u32> {
     Ok(fs::metadata(rt, path)?.mode() & 0o777)
 }
 
-// Asserts what reads of the file "hello" and a line's end give. It owns nothing: each way out of a function that owns
-// a disk is to be proved with the disk's end.
+// Asserts what reads of the file "hello" and a line's end give.
 fn assert_reads<R: Files + Abort + AllocGlobal + Drop>(
     rt: &R,
     disk: &mut FileDisk<R>,
@@ -69,17 +69,28 @@ where
     Ok(())
 }
 
+// Asserts that a disk at `writes/db`, where nothing is, puts a file there and reads it.
+fn assert_makes_and_reads<R: Files + Abort + AllocGlobal + Drop>(
+    rt: &R,
+    disk: &mut FileDisk<R>,
+) -> Result<(), Fail>
+where
+    R::File: FileExt + AsRawFd,
+{
+    assert_eq!(rt; disk.length(), Ok(None));
+    assert_eq!(rt; disk.sync(), Err(Failed), "there is no file");
+    assert_eq!(rt; rewrite(disk, b"hello\n"), Ok(()));
+    assert_eq!(rt; disk.length(), Ok(Some(6)));
+    assert_reads(rt, disk)?;
+    Ok(fs::remove_dir_all(rt, "writes")?)
+}
+
+// A test that owns a disk hands it on and ends: each way out of a function that owns one is proved with the disk's end.
 #[test]
 fn disk_writes_and_reads(rt: HostRuntime) -> Result<(), Fail> {
     begin(&rt, "writes")?;
     let mut disk = FileDisk::new(rt, Text::of(rt.alloc(), "writes/db")?);
-    assert_eq!(rt; disk.length(), Ok(None));
-    let calls = [disk.sync(), rewrite(&mut disk, b"hello\n")];
-    assert_eq!(rt; calls, [Err(Failed), Ok(())], "first there is no file");
-    assert_eq!(rt; disk.length(), Ok(Some(6)));
-    assert_reads(&rt, &mut disk)?;
-    fs::remove_dir_all(&rt, "writes")?;
-    Ok(())
+    assert_makes_and_reads(&rt, &mut disk)
 }
 
 /// What is written at an offset of the file as the row before left it, first of "hello" and a line's end.
@@ -198,18 +209,29 @@ where
     Ok(())
 }
 
+// Asserts that a disk at `place/db` writes and cuts, once there is a file.
+fn assert_in_place<R: Files + Abort + AllocGlobal + Drop>(
+    rt: &R,
+    disk: &mut FileDisk<R>,
+) -> Result<(), Fail>
+where
+    R::File: FileExt + AsRawFd,
+{
+    assert_absent(rt, disk)?;
+    fs::write(rt, "place/db", "hello\n")?;
+    fs::set_permissions(rt, "place/db", Permissions::from_mode(0o640))?;
+    assert_writes(rt, disk)?;
+    assert_cuts(rt, disk)?;
+    assert_eq!(rt; disk.sync(), Ok(()));
+    assert_eq!(rt; disk.length(), Ok(Some(1)));
+    Ok(fs::remove_dir_all(rt, "place")?)
+}
+
 #[test]
 fn disk_writes_in_place_and_cuts(rt: HostRuntime) -> Result<(), Fail> {
     begin(&rt, "place")?;
     let mut disk = FileDisk::new(rt, Text::of(rt.alloc(), "place/db")?);
-    assert_absent(&rt, &mut disk)?;
-    make_files(&rt, &[("place/db", "hello\n")])?;
-    fs::set_permissions(&rt, "place/db", Permissions::from_mode(0o640))?;
-    assert_writes(&rt, &mut disk)?;
-    assert_cuts(&rt, &mut disk)?;
-    assert_eq!(rt; (disk.sync(), disk.length()), (Ok(()), Ok(Some(1))));
-    fs::remove_dir_all(&rt, "place")?;
-    Ok(())
+    assert_in_place(&rt, &mut disk)
 }
 
 const LEFT: &[(&str, &str)] = &[
@@ -238,48 +260,80 @@ fn assert_rewrites<R: Files + Abort + AllocGlobal, D: Disk>(
     assert_file(rt, path, text, mode)
 }
 
+// Rewrites the file at the path, and asserts that it has this text and these permission bits.
+fn assert_rewritten<R: Files + Abort + AllocGlobal + Copy + Drop>(
+    rt: R,
+    path: &str,
+    text: &str,
+    mode: u32,
+) -> Result<(), Fail>
+where
+    R::File: FileExt + AsRawFd,
+{
+    let mut disk = FileDisk::new(rt, Text::of(rt.alloc(), path)?);
+    assert_rewrites(&rt, &mut disk, path, text, mode)
+}
+
 // The group's write bit and the others' stay, which a usual umask takes from a file that is made; no bit is added.
 #[test]
 fn disk_replaces_what_is_left_over(rt: HostRuntime) -> Result<(), Fail> {
     leave_files(&rt)?;
     let usual = mode_of(&rt, "left/usual")?;
-    let mut disk = FileDisk::new(rt, Text::of(rt.alloc(), "left/db")?);
-    assert_rewrites(&rt, &mut disk, "left/db", "second", 0o662)?;
-    let mut disk = FileDisk::new(rt, Text::of(rt.alloc(), "left/other")?);
-    assert_rewrites(&rt, &mut disk, "left/other", "beside a link", usual)?;
+    assert_rewritten(rt, "left/db", "second", 0o662)?;
+    assert_rewritten(rt, "left/other", "beside a link", usual)?;
     assert_file(&rt, "left/usual", "usual", usual)?;
-    fs::remove_dir_all(&rt, "left")?;
-    Ok(())
+    Ok(fs::remove_dir_all(&rt, "left")?)
+}
+
+// Asserts that a disk without a new file of its own adds nothing, syncs nothing and publishes nothing, and removes its
+// folder.
+fn assert_has_no_new_file<R: Files + Abort + AllocGlobal + Drop>(
+    rt: &R,
+    disk: &mut FileDisk<R>,
+    folder: &str,
+) -> Result<(), Fail>
+where
+    R::File: FileExt + AsRawFd,
+{
+    assert_eq!(rt; disk.new_write(b"more"), Err(Failed));
+    assert_eq!(rt; disk.new_sync(), Err(Failed));
+    assert_eq!(rt; disk.publish(), Err(Failed));
+    let path = format!(in rt.alloc(); "{folder}/db")?;
+    let main = fs::read_to_string(rt, path.as_str())?;
+    assert_eq!(rt; main.as_str(), "old");
+    Ok(fs::remove_dir_all(rt, folder)?)
 }
 
 #[test]
 fn disk_publishes_its_own_file_only(rt: HostRuntime) -> Result<(), Fail> {
     begin(&rt, "kept")?;
     make_files(&rt, &[("kept/db", "old"), ("kept/db.NEW", "not ours")])?;
-    let usual = mode_of(&rt, "kept/db")?;
     let mut disk = FileDisk::new(rt, Text::of(rt.alloc(), "kept/db")?);
-    let calls = [disk.new_write(b"x"), disk.new_sync(), disk.publish()];
-    assert_eq!(rt; calls, [Err(Failed); 3]);
-    assert_file(&rt, "kept/db", "old", usual)?;
-    fs::remove_dir_all(&rt, "kept")?;
-    Ok(())
+    assert_has_no_new_file(&rt, &mut disk, "kept")
+}
+
+// Begins a new file, and asserts that none is there once a folder has its name and it was to be begun again.
+fn assert_forgets<R: Files + Abort + AllocGlobal + Drop>(
+    rt: &R,
+    disk: &mut FileDisk<R>,
+) -> Result<(), Fail>
+where
+    R::File: FileExt + AsRawFd,
+{
+    assert_eq!(rt; disk.new_start(), Ok(()));
+    assert_eq!(rt; disk.new_write(b"new"), Ok(()));
+    fs::remove_file(rt, "again/db.NEW")?;
+    fs::create_dir(rt, "again/db.NEW")?;
+    assert_eq!(rt; disk.new_start(), Err(Failed));
+    assert_has_no_new_file(rt, disk, "again")
 }
 
 #[test]
 fn disk_forgets_a_new_file_that_it_cannot_begin_again(rt: HostRuntime) -> Result<(), Fail> {
     begin(&rt, "again")?;
     make_files(&rt, &[("again/db", "old")])?;
-    let usual = mode_of(&rt, "again/db")?;
     let mut disk = FileDisk::new(rt, Text::of(rt.alloc(), "again/db")?);
-    assert_eq!(rt; [disk.new_start(), disk.new_write(b"new")], [Ok(()); 2]);
-    fs::remove_file(&rt, "again/db.NEW")?;
-    fs::create_dir(&rt, "again/db.NEW")?;
-    assert_eq!(rt; disk.new_start(), Err(Failed), "a folder has its name");
-    let calls = [disk.new_write(b"more"), disk.new_sync(), disk.publish()];
-    assert_eq!(rt; calls, [Err(Failed); 3]);
-    assert_file(&rt, "again/db", "old", usual)?;
-    fs::remove_dir_all(&rt, "again")?;
-    Ok(())
+    assert_forgets(&rt, &mut disk)
 }
 
 type Answer = Result<(), Failed>;
@@ -333,18 +387,31 @@ where
     disk.length()
 }
 
+// Moves the folder away behind the first calls, and asserts what two syncs answer.
+fn assert_syncs<R: Files + Abort + AllocGlobal + Drop>(
+    rt: &R,
+    disk: &mut FileDisk<R>,
+    row: &Moved,
+) -> Result<(), Fail>
+where
+    R::File: FileExt + AsRawFd,
+{
+    assert_eq!(rt; prepare(disk, row.before), Ok(Some(3)));
+    fs::rename(rt, "named", "moved")?;
+    assert_eq!(rt; disk.sync(), row.then, "{}", row.name);
+    assert_eq!(rt; disk.sync(), row.then, "{}, once more", row.name);
+    Ok(fs::remove_dir_all(rt, "moved")?)
+}
+
 #[test]
 fn sync_asks_for_the_folder_where_the_name_is_new(rt: HostRuntime) -> Result<(), Fail> {
     for row in MOVED {
         begin(&rt, "named")?;
-        let _ = fs::remove_dir_all(&rt, "moved");
+        begin(&rt, "moved")?;
         make_files(&rt, &[("named/db", "old")])?;
         let mut disk = FileDisk::new(rt, Text::of(rt.alloc(), "named/db")?);
-        assert_eq!(rt; prepare(&mut disk, row.before), Ok(Some(3)));
-        fs::rename(&rt, "named", "moved")?;
-        assert_eq!(rt; [disk.sync(), disk.sync()], [row.then; 2], "{}", row.name);
+        assert_syncs(&rt, &mut disk, row)?;
     }
-    fs::remove_dir_all(&rt, "moved")?;
     Ok(())
 }
 
@@ -431,14 +498,13 @@ fn host_refuses_what_is_no_file(rt: HostRuntime) -> Result<(), Fail> {
     for place in PLACES {
         let mut host = FileHost::new(rt, Text::of(rt.alloc(), place.path)?);
         assert_eq!(rt; host.length(), place.length, "{}", place.name);
-        let calls = [host.sync(), host.new_sync(), host.new_start()];
-        let wanted = [place.sync, Err(Failed), place.start];
-        assert_eq!(rt; calls, wanted, "{}", place.name);
-        let writes = [host.write_at(0, b"x"), host.cut(0)];
-        assert_eq!(rt; writes, [place.write; 2], "{}", place.name);
+        assert_eq!(rt; host.sync(), place.sync, "{}", place.name);
+        assert_eq!(rt; host.new_sync(), Err(Failed), "{}", place.name);
+        assert_eq!(rt; host.new_start(), place.start, "{}", place.name);
+        assert_eq!(rt; host.write_at(0, b"x"), place.write, "{}", place.name);
+        assert_eq!(rt; host.cut(0), place.write, "{}", place.name);
     }
-    fs::remove_dir_all(&rt, "kinds")?;
-    Ok(())
+    Ok(fs::remove_dir_all(&rt, "kinds")?)
 }
 
 #[test]
@@ -449,29 +515,33 @@ fn host_rewrites_and_prints(rt: HostRuntime) -> Result<(), Fail> {
     assert_eq!(rt; host.length(), Ok(Some(5)));
     assert_eq!(rt; host.tell(b"printed \xff\n"), Ok(()));
     host.warn(b"warned \xff\n");
-    fs::remove_dir_all(&rt, "prints")?;
-    Ok(())
+    Ok(fs::remove_dir_all(&rt, "prints")?)
+}
+
+// Asserts that a host at `spots/db`, a file of ten digits, writes and cuts where it is asked to.
+fn assert_spots<R: Files + Abort + AllocGlobal + Print + Eprint + Drop>(
+    rt: &R,
+    host: &mut FileHost<R>,
+) -> Result<(), Fail>
+where
+    R::File: FileExt + AsRawFd,
+{
+    let beyond = 1 << 63;
+    assert_eq!(rt; host.write_at(beyond, b"x"), Err(Failed), "no such offset");
+    assert_eq!(rt; host.cut(beyond), Err(Failed), "no such length");
+    assert_eq!(rt; host.write_at(8, b"abcd"), Ok(()));
+    assert_eq!(rt; host.cut(9), Ok(()));
+    assert_eq!(rt; host.write_at(9, b"z\n"), Ok(()));
+    assert_eq!(rt; host.sync(), Ok(()));
+    let found = fs::read_to_string(rt, "spots/db")?;
+    assert_eq!(rt; found.as_str(), "01234567az\n");
+    Ok(fs::remove_dir_all(rt, "spots")?)
 }
 
 #[test]
 fn host_writes_in_place_and_cuts(rt: HostRuntime) -> Result<(), Fail> {
     begin(&rt, "spots")?;
-    make_files(&rt, &[("spots/db", "old")])?;
-    let usual = mode_of(&rt, "spots/db")?;
+    make_files(&rt, &[("spots/db", "0123456789")])?;
     let mut host = FileHost::new(rt, Text::of(rt.alloc(), "spots/db")?);
-    let beyond = 1 << 63;
-    let calls = [host.write_at(beyond, b"x"), host.cut(beyond)];
-    assert_eq!(rt; calls, [Err(Failed); 2], "no such offset or length");
-    assert_file(&rt, "spots/db", "old", usual)?;
-    let calls = [
-        rewrite(&mut host, b"0123456789"),
-        host.write_at(8, b"abcd"),
-        host.cut(9),
-        host.write_at(9, b"z\n"),
-        host.sync(),
-    ];
-    assert_eq!(rt; calls, [Ok(()); 5], "into the new file");
-    assert_file(&rt, "spots/db", "01234567az\n", usual)?;
-    fs::remove_dir_all(&rt, "spots")?;
-    Ok(())
+    assert_spots(&rt, &mut host)
 }
