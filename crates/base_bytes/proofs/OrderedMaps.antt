@@ -1,15 +1,17 @@
 -- Ordered maps: what a put and a removal do to them, and that their values tell them apart.
-use Rattle.std.proofs.Common.{◌≡◌, ◌≢◌, ℕ, Bool, true, false, cond, List, [], ◌∷◌, ◌++◌, Option, Some, None, refl, sym, ◌∙◌, ap, subst}
+use Rattle.std.proofs.Common.{◌≡◌, ◌≢◌, ◌≤◌, ℕ, zero, suc, Bool, true, false, cond, List, [], ◌∷◌, ◌++◌, Option, Some, None, length, take, drop, refl, sym, ◌∙◌, ap, subst, arith}
 use Rattle.std.proofs.lemmas.Cmp.{tied_itself}
+use Rattle.std.proofs.lemmas.List.Elements.{All-nil, All-cons}
 use Rattle.std.specs.declared.cmp.Ordering.{Ordering}
 use Rattle.std.specs.declared.cmp.Ordering.TheVariants.{Less, Equal, Greater}
-use Rattle.std.specs.Ordering.{ordering_reverse, match_ordering, is_eq}
-use Rattle.std.specs.Prelude.{is_some}
+use Rattle.std.specs.Ordering.{ordering_reverse, match_ordering, is_eq, is_lt}
+use Rattle.std.specs.Prelude.{is_some, not, filter}
+use Rattle.std.specs.List.{All}
 use Rattle.std.specs.Map.{lookup, remove_entry}
 use Rattle.std.specs.BTreeMap.{insert_entry, is_at}
 use Rattle.std.specs.Cmp.Lexicographic.{nat_list_cmp_total}
 use Rattle.std.specs.FinMap.{slice_cmp-IsAntisymmetric, nat_cmp-IsAntisymmetric}
-use Rattle.base_bytes.specs.OrderedMap.{Map, IsBelow, IsOrderedMap, BeginsAbove, key_order, put, value_at, without}
+use Rattle.base_bytes.specs.OrderedMap.{Map, IsBelow, IsOrderedMap, IsDbMap, BeginsAbove, key_order, pairs_from, put, value_at, without}
 
 -- ---- the order of keys
 
@@ -231,3 +233,61 @@ same_map (p ∷ m) (q ∷ n) one other same =
     let later = later_same p.0 p.1 q.1 m n one.0 (subst (λ (k : List ℕ). BeginsAbove k n) (sym keys) other.0) one.1 other.1
     (λ k. same k ∙ ap (λ (l : List ℕ). value_at ((l, q.1) ∷ n) k) (sym keys)) in
     ap (λ (k : List ℕ). (k, p.1) ∷ m) keys ∙ ap (λ (v : List ℕ). (q.0, v) ∷ m) values ∙ ap (λ (l : Map). q ∷ l) (same_map m n one.1 other.1 later)
+
+-- ---- the map of a database
+
+pub empty_db_map : IsDbMap []
+empty_db_map = record { ordered = tt; some = All-nil (λ p. p.0 ≢ []) }
+
+pub rest_some : (p : List ℕ × List ℕ) (m : Map) → All (λ q. q.0 ≢ []) (p ∷ m) → All (λ q. q.0 ≢ []) m
+rest_some p m all = λ k d below. all (suc k) d (omega (arith, below))
+
+put_some : (m : Map) (key value : List ℕ) → key ≢ [] → All (λ p. p.0 ≢ []) m → All (λ p. p.0 ≢ []) (put m key value)
+unfolding put
+put_some [] key value some all = All-cons (λ p. p.0 ≢ []) (key, value) [] some all
+put_some (p ∷ m) key value some all = by (put_some m key value some (rest_some p m all)) (key_order key p.0)
+  where
+    first : p.0 ≢ []
+    first = all 0 p (omega arith)
+
+    by : All (λ q. q.0 ≢ []) (insert_entry key_order m key value) → (o : Ordering) → All (λ q. q.0 ≢ []) (match_ordering o ((key, value) ∷ p ∷ m) ((p.0, value) ∷ m) (p ∷ insert_entry key_order m key value))
+    by later Less = All-cons (λ q. q.0 ≢ []) (key, value) (p ∷ m) some all
+    by later Equal = All-cons (λ q. q.0 ≢ []) (p.0, value) m first (rest_some p m all)
+    by later Greater = All-cons (λ q. q.0 ≢ []) p (insert_entry key_order m key value) first later
+
+without_some : (m : Map) (key : List ℕ) → All (λ p. p.0 ≢ []) m → All (λ p. p.0 ≢ []) (without m key)
+unfolding without
+without_some [] key all = all
+without_some (p ∷ m) key all = by (without_some m key (rest_some p m all)) (is_at (key_order key) p.0)
+  where
+    by : All (λ q. q.0 ≢ []) (remove_entry (is_at (key_order key)) m) → (b : Bool) → All (λ q. q.0 ≢ []) (cond b m (p ∷ remove_entry (is_at (key_order key)) m))
+    by later true = rest_some p m all
+    by later false = All-cons (λ q. q.0 ≢ []) p (remove_entry (is_at (key_order key)) m) (all 0 p (omega arith)) later
+
+-- it stays one after a change
+pub put_db_map : (m : Map) (key value : List ℕ) → key ≢ [] → IsDbMap m → IsDbMap (put m key value)
+put_db_map m key value some is = record { ordered = put_ordered m key value is.ordered; some = put_some m key value some is.some }
+
+pub without_db_map : (m : Map) (key : List ℕ) → IsDbMap m → IsDbMap (without m key)
+without_db_map m key is = record { ordered = without_ordered m key is.ordered; some = without_some m key is.some }
+
+-- ---- the pairs from a key on
+
+from_all : (m : Map) (key : List ℕ) → All (λ p. ¬ IsBelow p.0 key) m → pairs_from m key ≡ m
+unfolding pairs_from
+from_all [] key none = refl
+from_all (p ∷ m) key none = by (from_all m key (λ k d below. none (suc k) d (omega (arith, below)))) (key_order p.0 key) refl
+  where
+    by : filter (λ q. not (is_lt (key_order q.0 key))) m ≡ m → (o : Ordering) → key_order p.0 key ≡ o → cond (not (is_lt o)) (p ∷ filter (λ q. not (is_lt (key_order q.0 key))) m) (filter (λ q. not (is_lt (key_order q.0 key))) m) ≡ p ∷ m
+    by later Less is = absurd (none 0 p (omega arith) is)
+    by later Equal is = ap (λ (l : Map). p ∷ l) later
+    by later Greater is = ap (λ (l : Map). p ∷ l) later
+
+-- where the first so many keys are below it and the others are not, those are left out
+pub pairs_from_place : (m : Map) (key : List ℕ) (place : ℕ) → place ≤ length m → All (λ p. IsBelow p.0 key) (take place m) → All (λ p. ¬ IsBelow p.0 key) (drop place m) → pairs_from m key ≡ drop place m
+unfolding pairs_from
+pairs_from_place m key zero within lower others = from_all m key others
+pairs_from_place [] key (suc place) within lower others = refl
+pairs_from_place (p ∷ m) key (suc place) within lower others =
+    ap (λ (o : Ordering). cond (not (is_lt o)) (p ∷ filter (λ q. not (is_lt (key_order q.0 key))) m) (filter (λ q. not (is_lt (key_order q.0 key))) m)) (lower 0 p (omega arith))
+    ∙ pairs_from_place m key place (omega (arith, within)) (λ k d below. lower (suc k) d (omega (arith, below))) others

@@ -1,8 +1,9 @@
 -- Each frame fact implies the weaker ones, and holds of two runs of calls where it holds of both.
-use Rattle.std.proofs.Common.{◌≡◌, ◌≤◌, ℕ, Option, ◌∙◌, refl, arith, List}
+use Rattle.std.proofs.Common.{◌≡◌, ◌≤◌, ℕ, Option, ⊎_elim, ◌∙◌, refl, arith, List}
 use Rattle.std.specs.Prelude.{Result}
-use Rattle.base_devices.specs.CrashImages.{Image, DiskState, GoesOn, LeavesOnly, LeavesSame, IsMoment}
+use Rattle.base_devices.specs.CrashImages.{Image, DiskState, GoesOn, LeavesOnly, LeavesSame, IsMoment, IsDurable}
 use Rattle.base_devices.specs.Frames.{KeepsMain, StaysAs, KeepsFiles, OnlyPrints, MayLeaveLess, LeavesBetween, KeepsFile, SameDisk}
+use Rattle.base_devices.specs.DiskCalls.{DiskCall, Syncs}
 use Rattle.base_devices.specs.HostCalls.{MovesMark}
 use Rattle.base_devices.proofs.Moments.{each_then, same_leaves, leaves_still}
 
@@ -92,3 +93,39 @@ file_still a b c same file = record {
   written = same.written ∙ file.written;
   publishes = same.publishes ∙ file.publishes;
 }
+
+-- ---- less may be left
+
+pub less_of_stays : (a b : DiskState) → StaysAs a b → b.fresh ≡ a.fresh → MayLeaveLess a b
+less_of_stays a b stays fresh = record {
+  leaves = stays.main.leaves.no_more;
+  each = stays.each;
+  mark = stays.mark;
+  fresh = fresh;
+  written = stays.main.written;
+  publishes = stays.main.publishes;
+}
+
+pub less_of_sync : {T E : Type 0} (a b : DiskState) (result : Result T E) → DiskCall a b → Syncs a b result → MayLeaveLess a b
+less_of_sync a b result call sync = record {
+  leaves = sync.crash;
+  each = record { each = λ c n left. let pair = call.each.each c n left in (pair.0, ⊎_elim (λ was. was) (sync.crash c) pair.1) };
+  mark = call.mark;
+  fresh = sync.fresh;
+  written = sync.written;
+  publishes = sync.publishes;
+}
+
+pub less_then : (a b c : DiskState) → GoesOn a b → GoesOn b c → MayLeaveLess a b → MayLeaveLess b c → MayLeaveLess a c
+less_then a b c ab bc first second = record {
+  leaves = λ i left. first.leaves i (second.leaves i left);
+  each = each_then a b c _ ab bc first.each (record { each = λ i n left. let pair = second.each.each i n left in (pair.0 ∙ first.mark, first.leaves i pair.1) });
+  mark = second.mark ∙ first.mark;
+  fresh = second.fresh ∙ first.fresh;
+  written = second.written ∙ first.written;
+  publishes = second.publishes ∙ first.publishes;
+}
+
+-- what is durable stays so
+pub durable_stays : (a b : DiskState) → StaysAs a b → IsDurable a → IsDurable b
+durable_stays a b stays durable = record { only = λ i left. stays.main.reads ∙ durable.only i (stays.main.leaves.no_more i left) }

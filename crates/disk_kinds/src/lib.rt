@@ -1,23 +1,5 @@
-//! Devices in memory, which tell what they hold, and real ones.
+//! The devices under one name: those in memory, and real ones. They stand in two crates, which meet the same traits.
 #![tactic(auto)]
 
-mod buffers;
-mod call_log;
-mod faults;
-mod file;
-mod file_host;
-mod landings;
-mod lines;
-mod mem_host;
-mod memory;
-mod playing;
-mod real;
-mod replay;
-mod replaying;
-#[cfg(test)]
-mod tests;
-
-pub use file::FileDisk;
-pub use file_host::FileHost;
-pub use mem_host::MemHost;
-pub use memory::{Counts, MemDisk};
+pub use file_devices::{FileDisk, FileHost};
+pub use mem_devices::{Counts, MemDisk, MemHost};

@@ -1,9 +1,9 @@
 -- A map that is kept in memory, and bytes that are added to its own.
-use Rattle.std.proofs.Common.{◌≡◌, ◌≢◌, ◌≤◌, ℕ, List, [], ◌++◌, Result, Ok, Err, length, take, refl, sym, ◌∙◌, ap, subst, arith, length-append}
+use Rattle.std.proofs.Common.{◌≡◌, ◌≤◌, ℕ, List, [], ◌++◌, Result, Ok, Err, length, take, refl, sym, ◌∙◌, ap, subst, arith, length-append}
 use Rattle.std.specs.Prelude.{OnErr}
 use Rattle.std.specs.List.{All}
 use Rattle.std.proofs.lemmas.List.{take_at, take_all}
-use Rattle.base_bytes.specs.OrderedMap.{Map, IsOrderedMap}
+use Rattle.base_bytes.specs.OrderedMap.{Map, IsDbMap}
 use Rattle.flat_db.specs.FlatText.{canonical_text, SaysPairs, put_all, FlatTextOf}
 use Rattle.flat_db.specs.Entries.{pairs_of, EndsBy}
 use Rattle.flat_db.specs.Kept.{IsKept, SameEntries, map_among}
@@ -25,8 +25,7 @@ pub grown_kept : (bytes new more : List ℕ) (pairs : Pairs) → new ≡ bytes +
 grown_kept bytes new more pairs is short kept =
     let same = grown_map bytes new more pairs is kept in
     record {
-      ordered = subst IsOrderedMap (sym same) kept.ordered;
-      some = subst (All (λ p. p.0 ≢ [])) (sym same) kept.some;
+      sound = subst IsDbMap (sym same) kept.sound;
       ends = grown_ends bytes new more pairs.entries.items is kept.ends;
       counted = kept.counted ∙ ap (λ (m : Map). length (canonical_text m)) (sym same);
       short = short;
@@ -35,8 +34,7 @@ grown_kept bytes new more pairs is short kept =
 
 pub same_kept : (bytes : List ℕ) (a b : Pairs) → SameEntries a b → IsKept bytes a → IsKept bytes b
 same_kept bytes a b same kept = record {
-  ordered = subst IsOrderedMap (ap (pairs_of bytes) (sym same.items)) kept.ordered;
-  some = subst (All (λ p. p.0 ≢ [])) (ap (pairs_of bytes) (sym same.items)) kept.some;
+  sound = subst IsDbMap (ap (pairs_of bytes) (sym same.items)) kept.sound;
   ends = subst (All (EndsBy (length bytes))) (sym same.items) kept.ends;
   counted = same.size ∙ kept.counted ∙ ap (λ (l : List Entry). length (canonical_text (pairs_of bytes l))) (sym same.items);
   short = kept.short;

@@ -2,6 +2,7 @@ pub mod Adding
 pub mod Canonical
 pub mod FieldLemmas
 pub mod KeptLemmas
+pub mod KindLaws
 pub mod LaterWins
 pub mod LineLemmas
 pub mod OpeningLemmas

@@ -4,16 +4,15 @@ use Rattle.std.proofs.lemmas.List.{get_or_default}
 use Rattle.std.proofs.lemmas.List.Elements.{All-set, All-cons, All-append, All-take, All-drop}
 use Rattle.std.proofs.lemmas.List.Sorted.{All-permutation, IsPermutation-insert}
 use Rattle.std.specs.List.{All, insert, remove}
-use Rattle.base_bytes.specs.OrderedMap.{Map, IsBelow, IsOrderedMap, put, without}
+use Rattle.base_bytes.specs.OrderedMap.{Map, IsDbMap, put, without}
 use Rattle.base_bytes.specs.declared.limits.TheConstants.{FLAT_LIMIT}
-use Rattle.base_bytes.proofs.OrderedMaps.{put_ordered, without_ordered}
+use Rattle.base_bytes.proofs.OrderedMaps.{put_db_map, without_db_map}
 use Rattle.flat_db.specs.FlatText.{pair_line, canonical_text}
 use Rattle.flat_db.specs.Entries.{EndsBy, part_of, pair_of, pairs_of}
 use Rattle.flat_db.specs.Kept.{IsKept, map_among}
 use Rattle.flat_db.specs.Places.{HasKeyAt, LacksKeyAt}
 use Rattle.flat_db.specs.declared.entries.Entry.{Entry}
 use Rattle.flat_db.specs.declared.pairs.Pairs.{Pairs}
-use Rattle.flat_db.proofs.Canonical.{put_some, without_some}
 use Rattle.flat_db.proofs.PlaceLemmas.{entry_pair, set_pairs, insert_pairs, remove_pairs, put_own, put_between, without_own}
 use Rattle.flat_db.proofs.Sizes.{size_without_own}
 
@@ -55,11 +54,10 @@ ends_remove end entries place all =
 
 -- ---- what holds of a map that is kept goes on to hold
 
-pub put_kept : (bytes key value : List ℕ) (before after : Pairs) → IsKept bytes before → IsBelow [] key → All (EndsBy (length bytes)) after.entries.items
+pub put_kept : (bytes key value : List ℕ) (before after : Pairs) → IsKept bytes before → key ≢ [] → All (EndsBy (length bytes)) after.entries.items
     → map_among bytes after ≡ put (map_among bytes before) key value → after.size ≡ length (canonical_text (put (map_among bytes before) key value)) → after.size ≤ FLAT_LIMIT → IsKept bytes after
 put_kept bytes key value before after kept some ends is size fits = record {
-  ordered = subst IsOrderedMap (sym is) (put_ordered (map_among bytes before) key value kept.ordered);
-  some = subst (All (λ p. p.0 ≢ [])) (sym is) (put_some (map_among bytes before) key value some kept.some);
+  sound = subst IsDbMap (sym is) (put_db_map (map_among bytes before) key value some kept.sound);
   ends = ends;
   counted = size ∙ ap (λ (m : Map). length (canonical_text m)) (sym is);
   short = kept.short;
@@ -70,8 +68,7 @@ pub without_kept : (bytes key : List ℕ) (before after : Pairs) (place : ℕ) �
     → after.size ≡ length (canonical_text (without (map_among bytes before) key)) → IsKept bytes after × (map_among bytes after ≡ without (map_among bytes before) key)
 without_kept bytes key before after place kept has removed size = (
   record {
-    ordered = subst IsOrderedMap (sym is) (without_ordered (map_among bytes before) key kept.ordered);
-    some = subst (All (λ p. p.0 ≢ [])) (sym is) (without_some (map_among bytes before) key kept.some);
+    sound = subst IsDbMap (sym is) (without_db_map (map_among bytes before) key kept.sound);
     ends = subst (All (EndsBy (length bytes))) (sym removed) (ends_remove (length bytes) before.entries.items place kept.ends);
     counted = size ∙ ap (λ (m : Map). length (canonical_text m)) (sym is);
     short = kept.short;

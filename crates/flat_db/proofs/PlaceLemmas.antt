@@ -9,10 +9,9 @@ use Rattle.std.specs.List.{All, insert, remove, find}
 use Rattle.std.specs.Prelude.{not, slice_get}
 use Rattle.std.proofs.Math.Nat.{eq-or-lt_of_le}
 use Rattle.std.specs.List.Sorted.{IsPartitionedBy, IsPartitionPoint}
-use Rattle.base_bytes.specs.OrderedMap.{Map, IsBelow, IsOrderedMap, BeginsAbove, key_order, put, value_at, without}
+use Rattle.base_bytes.specs.OrderedMap.{Map, IsBelow, IsOrderedMap, BeginsAbove, key_order, first_from, first_above, put, value_at, without}
 use Rattle.base_bytes.proofs.OrderedMaps.{EndsBelow, below_then, below_turned, without_behind, without_here, above_turned, begins_above_then, no_value_before, value_behind, value_here, put_behind, put_over, put_before, same_key, is_at_key, key_itself}
 use Rattle.flat_db.specs.Entries.{part_of, pair_of, pairs_of}
-use Rattle.db_core.specs.Sessions.{first_from, first_above}
 use Rattle.flat_db.specs.Places.{IsPlaceOf, HasKeyAt, LacksKeyAt}
 use Rattle.flat_db.specs.declared.entries.Entry.{Entry}
 

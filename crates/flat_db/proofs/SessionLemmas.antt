@@ -1,36 +1,74 @@
 -- How the calls of a session follow one another.
-use Rattle.std.proofs.lemmas.List.{append-nil, length-take-le, take_all}
-use Rattle.std.proofs.Common.{◌≡◌, ◌≢◌, ◌⊎◌, inl, inr, ⊎_elim, ℕ, ◌+◌, ◌≤◌, Bool, true, false, List, [], ◌++◌, Option, Some, None, length, take, refl, sym, ◌∙◌, ap, subst, arith, length-append}
-use Rattle.std.specs.Prelude.{◌<◌, ◌==◌, nat_lt, slice_get, is_some, if◌then◌else◌}
+use Rattle.std.proofs.lemmas.List.{append-nil, drop_all, drop_more, length-take-le, take_all}
+use Rattle.std.proofs.lemmas.Option.{get_or_from_slice_get, slice_get_cases, slice_get_within}
+use Rattle.std.proofs.Common.{◌≡◌, inl, inr, ⊎_elim, ℕ, ◌+◌, ◌≤◌, Bool, true, false, List, [], ◌∷◌, ◌++◌, Option, Some, None, Result, Ok, Err, length, take, drop, refl, sym, ◌∙◌, ap, subst, arith, length-append}
+use Rattle.std.specs.Prelude.{◌<◌, nat_lt, slice_get, is_some, IfErr, if◌then◌else◌}
 use Rattle.std.specs.List.{All}
-use Rattle.base_devices.specs.CrashImages.{Image, DiskState}
-use Rattle.base_bytes.specs.OrderedMap.{Map, IsOrderedMap, put, value_at, without}
-use Rattle.base_bytes.specs.declared.limits.TheConstants.{FLAT_LIMIT, KEY_LIMIT, VALUE_LIMIT}
-use Rattle.db_core.specs.Answers.{OnDisk, broken_refusal, pair_refusal, size_refusal, store_refusal, delete_refusal}
-use Rattle.db_core.specs.Sessions.{DbState, stored, deleted, aborted, first_from, first_above}
+use Rattle.std.specs.Option.{option_or}
+use Rattle.base_devices.specs.Causes.{FaultHasCause}
+use Rattle.base_devices.specs.CrashImages.{Image, DiskState, IsMoment}
+use Rattle.base_bytes.specs.OrderedMap.{Map, IsOrderedMap, IsDbMap, first_from, first_above, pairs_from, put, value_at, without}
+use Rattle.base_bytes.specs.declared.limits.TheConstants.{FLAT_LIMIT}
+use Rattle.db_core.specs.Calls.{OnDisk, MakesCall, OpensCommitted, OpensEither}
+use Rattle.db_core.specs.Refusals.{Answers, IsAfterRefusal, IsDiskFault, LeavesDisk, broken_refusal, pair_refusal, size_refusal, store_refusal, delete_refusal}
+use Rattle.db_core.specs.Sessions.{DbState, over, stored, deleted, committed, aborted}
 use Rattle.db_core.specs.declared.fault.DbFault.{DbFault}
-use Rattle.db_core.specs.declared.fault.DbFault.TheVariants.{Broken as Refused, KeyEmpty, KeyTooLong, ValueTooLong, Full}
+use Rattle.db_core.specs.declared.fault.DbFault.TheVariants.{Broken as Refused, Full, DiskFault}
 use Rattle.flat_db.specs.FlatText.{canonical_text}
 use Rattle.flat_db.specs.Entries.{EndsBy, pairs_of}
 use Rattle.flat_db.specs.Opening.{flat_opens}
-use Rattle.flat_db.specs.Replacing.{MayReplace}
+use Rattle.base_devices.specs.Frames.{MayReplace}
 use Rattle.flat_db.proofs.Canonical.{canonical_reads_back}
 use Rattle.flat_db.proofs.LineLemmas.{pairs_below}
 use Rattle.flat_db.specs.Kept.{IsKept, SameEntries, map_among}
 use Rattle.flat_db.specs.Places.{IsPlaceOf, HasKeyAt, LacksKeyAt}
 use Rattle.flat_db.proofs.PlaceLemmas.{value_own, value_lacks, first_from_place, first_above_between, first_above_own}
-use Rattle.flat_db.specs.Sessions.{flat_kind, FlatSession, at_rest, within, flat_state, FlatTied, session_of, changed, HoldsBy, IsOpen, IsSession}
+use Rattle.flat_db.specs.Sessions.{flat_kind, FlatSession, resting, within, flat_state, FlatTied, session_of, changed, HoldsBy, IsOpen, IsSession}
 use Rattle.flat_db.specs.declared.pairs.Pairs.{Pairs}
 use Rattle.flat_db.specs.declared.session.Stage.{Stage}
 use Rattle.flat_db.specs.declared.session.Stage.TheVariants.{Resting, Open, Broken}
 use Rattle.flat_db.specs.declared.session.Transaction.{Transaction}
-use Rattle.base_bytes.proofs.OrderedMaps.{without_absent}
+use Rattle.base_bytes.proofs.OrderedMaps.{pairs_from_place, without_absent}
 use Rattle.flat_db.proofs.KeptLemmas.{grown_map, grown_kept}
 
 -- ---- the tie
 
 pub tied_same : (a b : FlatSession) (d : DiskState) → (flat_state b).committed ≡ (flat_state a).committed → (flat_state b).is_broken ≡ (flat_state a).is_broken → FlatTied a d → FlatTied b d
 tied_same a b d committed is_broken tie = record { leaves = λ sound c left. subst (λ (m : Map). flat_kind.opens c m) (sym committed) (tie.leaves (sym is_broken ∙ sound) c left) }
+
+-- ---- calls that make no call of the disk
+
+refused_same : (fault : DbFault) (old new : DbState) → ¬ IsDiskFault fault → IsAfterRefusal fault old new → new ≡ old
+refused_same DiskFault old new isnt after = absurd (isnt tt)
+refused_same fault old new isnt after = after
+
+-- the tie goes on over a session with the same committed map
+pub answered_tied : {T : Type 0} (owed : Option DbFault) (wanted : DbState) (s t : FlatSession) (d : DiskState) (result : Result T DbFault)
+    → Answers owed (flat_state s) (flat_state t) wanted result → IfErr result (λ fault. ¬ IsDiskFault fault) → wanted.committed ≡ (flat_state s).committed → wanted.is_broken ≡ (flat_state s).is_broken → FlatTied s d → FlatTied t d
+answered_tied owed wanted s t d (Ok x) answer no_fault committed is_broken tie =
+    tied_same s t d (ap (λ (u : DbState). u.committed) answer.done ∙ committed) (ap (λ (u : DbState). u.is_broken) answer.done ∙ is_broken) tie
+answered_tied owed wanted s t d (Err fault) answer no_fault committed is_broken tie =
+    let same = refused_same fault (flat_state s) (flat_state t) no_fault answer.after in
+    tied_same s t d (ap (λ (u : DbState). u.committed) same) (ap (λ (u : DbState). u.is_broken) same) tie
+
+-- and what it leaves is what could be left
+pub makes_no_call : {T : Type 0} (owed : Option DbFault) (wanted : DbState) (s t : FlatSession) (d : DiskState) (result : Result T DbFault)
+    → Answers owed (flat_state s) (flat_state t) wanted result → IfErr result (λ fault. ¬ IsDiskFault fault) → IsMoment d → FlatTied s d
+    → MakesCall flat_kind owed wanted (OpensCommitted flat_kind (flat_state s)) (over d (flat_state s)) (over d (flat_state t)) result
+makes_no_call {T = T} owed wanted s t d result answer no_fault moment tie = record {
+  answer = answer;
+  disk = record { each = λ sound. record { each = λ i n left. let now = moment.now i n left in (now.1, tie.leaves sound i now.0) }; mark = refl };
+  in_place = λ in_place. refl;
+  cause = by result no_fault;
+}
+  where
+    by : (r : Result T DbFault) → IfErr r (λ fault. ¬ IsDiskFault fault) → FaultHasCause IsDiskFault d.faults d.faults r
+    by (Ok x) none = record { later = omega arith; rose = tt; stood = tt; kept = refl }
+    by (Err fault) none = record { later = omega arith; rose = λ is. absurd (none is); stood = inr refl; kept = tt }
+
+pub leaves_disk : {T D : Type 0} (d : D) (result : Result T DbFault) → LeavesDisk result d d
+leaves_disk d (Ok x) = tt
+leaves_disk d (Err fault) = inr refl
 
 -- ---- what the parts hold
 
@@ -69,7 +107,7 @@ seen_same bytes new more seen later stage is same session = by stage session.sta
     map_same = ap (pairs_of new) same.items ∙ grown_map bytes new more seen is session.kept
 
     by : (stage : Stage) → HoldsBy bytes seen stage → session_of new later stage ≡ session_of bytes seen stage
-    by Resting holds = ap at_rest map_same
+    by Resting holds = ap resting map_same
     by (Open t) holds = cc (map_same, grown_map bytes new more t.committed is holds.committed)
     by Broken holds = refl
 
@@ -133,23 +171,18 @@ delete_free s key sound none =
     ap (λ (b : Bool). if b then Some Refused else (if is_some (value_at s.seen key) then size_refusal flat_kind (length (canonical_text (without s.seen key))) else None)) sound
     ∙ ap (λ (b : Bool). if b then size_refusal flat_kind (length (canonical_text (without s.seen key))) else None) none
 
--- the pair's own refusal comes before that of the size
-pub pair_then : (key value : List ℕ) (later : Option DbFault) → pair_refusal key value None ≡ None → pair_refusal key value later ≡ later
-pair_then key value later none = by (length key == 0) (nat_lt KEY_LIMIT (length key)) (nat_lt VALUE_LIMIT (length value)) none
-  where
-    by : (a b c : Bool) → (if a then Some KeyEmpty else (if b then Some (KeyTooLong (length key)) else (if c then Some (ValueTooLong (length value)) else None))) ≡ None
-        → (if a then Some KeyEmpty else (if b then Some (KeyTooLong (length key)) else (if c then Some (ValueTooLong (length value)) else later))) ≡ later
-    by true b c none = absurd (cc none)
-    by false true c none = absurd (cc none)
-    by false false true none = absurd (cc none)
-    by false false false none = refl
-
-pub store_owed : (s : DbState) (word : ℕ) (key value : List ℕ) → s.is_broken ≡ false → pair_refusal key value None ≡ None → store_refusal flat_kind s word key value ≡ size_refusal flat_kind (length (canonical_text (put s.seen key value)))
+pub store_owed : (s : DbState) (word : ℕ) (key value : List ℕ) → s.is_broken ≡ false → pair_refusal key value ≡ None → store_refusal flat_kind s word key value ≡ size_refusal flat_kind (length (canonical_text (put s.seen key value)))
 store_owed s word key value sound right =
-    ap (λ (b : Bool). if b then Some Refused else pair_refusal key value (size_refusal flat_kind (length (canonical_text (put s.seen key value))))) sound
-    ∙ pair_then key value (size_refusal flat_kind (length (canonical_text (put s.seen key value)))) right
+    ap (λ (b : Bool). if b then Some Refused else option_or (pair_refusal key value) (size_refusal flat_kind (length (canonical_text (put s.seen key value))))) sound
+    ∙ ap (λ (o : Option DbFault). option_or o (size_refusal flat_kind (length (canonical_text (put s.seen key value))))) right
 
 -- ---- what the key's place says of the map seen
+
+none_left : (m : Map) (place : ℕ) → slice_get m place ≡ None → drop place m ≡ []
+none_left m place none = ⊎_elim (λ some. absurd (cc (sym none ∙ some.2))) (λ past. drop_all place m past.0) (slice_get_cases m place).1
+
+some_left : (m : Map) (place : ℕ) (p : List ℕ × List ℕ) → slice_get m place ≡ Some p → drop place m ≡ p ∷ drop (place + 1) m
+some_left m place p some = drop_more m place p (slice_get_within m place p some) ∙ ap (λ (q : List ℕ × List ℕ). q ∷ drop (place + 1) m) (get_or_from_slice_get m place p p some)
 
 module _ (bytes slice key : List ℕ) (seen : Pairs) (stage : Stage) (s : FlatSession) (place : ℕ) (view : session_of bytes seen stage ≡ s) (sound : (flat_state s).is_broken ≡ false) (same : slice ≡ bytes) where
   among : map_among slice seen ≡ (flat_state s).seen
@@ -160,7 +193,7 @@ module _ (bytes slice key : List ℕ) (seen : Pairs) (stage : Stage) (s : FlatSe
 
   pub key_is_absent : LacksKeyAt key (map_among slice seen) place → IsSession bytes seen stage → is_some (value_at (flat_state s).seen key) ≡ false
   key_is_absent lacks session =
-      let ordered = subst (λ (l : List ℕ). IsOrderedMap (map_among l seen)) (sym same) session.kept.ordered in
+      let ordered = subst (λ (l : List ℕ). IsOrderedMap (map_among l seen)) (sym same) session.kept.sound.ordered in
       ap (λ (m : Map). is_some (value_at m key)) (sym among) ∙ ap is_some (value_lacks key (map_among slice seen) place lacks ordered)
 
   pub size_then : (size : ℕ) → size ≡ length (canonical_text (without (map_among slice seen) key)) → size ≡ length (canonical_text (without (flat_state s).seen key))
@@ -169,12 +202,24 @@ module _ (bytes slice key : List ℕ) (seen : Pairs) (stage : Stage) (s : FlatSe
   pub first_pair : IsPlaceOf key (map_among slice seen) place → slice_get (map_among slice seen) place ≡ first_from (flat_state s).seen key
   first_pair at = sym (first_from_place key (map_among slice seen) place at) ∙ ap (λ (m : Map). first_from m key) among
 
+  -- and where a walk from it begins
+  pub walk_place : IsPlaceOf key (map_among slice seen) place → pairs_from (flat_state s).seen key ≡ drop place (flat_state s).seen
+  walk_place at = subst (λ (m : Map). pairs_from m key ≡ drop place m) among (pairs_from_place (map_among slice seen) key place at.within at.lower at.others)
+
+  -- what is left there of a walk
+  pub walk_end : (left : Map) → None ≡ slice_get (map_among slice seen) place → left ≡ drop place (flat_state s).seen → left ≡ []
+  walk_end left none is = is ∙ ap (drop place) (sym among) ∙ none_left (map_among slice seen) place (sym none)
+
+  pub walk_on : (left : Map) (p : List ℕ × List ℕ) → Some p ≡ slice_get (map_among slice seen) place → left ≡ drop place (flat_state s).seen → left ≡ p ∷ drop (place + 1) (flat_state s).seen
+  walk_on left p some is =
+      is ∙ ap (drop place) (sym among) ∙ some_left (map_among slice seen) place p (sym some) ∙ ap (λ (m : Map). p ∷ drop (place + 1) m) among
+
   pub next_pair_between : LacksKeyAt key (map_among slice seen) place → slice_get (map_among slice seen) place ≡ first_above (flat_state s).seen key
   next_pair_between lacks = sym (first_above_between key (map_among slice seen) place lacks) ∙ ap (λ (m : Map). first_above m key) among
 
   pub next_pair_own : HasKeyAt key (map_among slice seen) place → IsSession bytes seen stage → slice_get (map_among slice seen) (place + 1) ≡ first_above (flat_state s).seen key
   next_pair_own has session =
-      let ordered = subst (λ (l : List ℕ). IsOrderedMap (map_among l seen)) (sym same) session.kept.ordered in
+      let ordered = subst (λ (l : List ℕ). IsOrderedMap (map_among l seen)) (sym same) session.kept.sound.ordered in
       sym (first_above_own key (map_among slice seen) place has ordered) ∙ ap (λ (m : Map). first_above m key) among
 
 -- a transaction goes on with a map seen that changed among the same bytes
@@ -189,7 +234,7 @@ text_opens bytes slice seen i same kept fits is = record {
   bytes = canonical_text (map_among bytes seen);
   there = is ∙ ap (λ (l : List ℕ). Some (canonical_text (map_among l seen))) same;
   within = omega (arith, kept.counted, fits);
-  so = canonical_reads_back (map_among bytes seen) kept.ordered kept.some;
+  so = canonical_reads_back (map_among bytes seen) kept.sound;
 }
 
 module _ (bytes slice : List ℕ) (seen : Pairs) (stage result : Stage) (t : Transaction) (s : FlatSession) (view : session_of bytes seen stage ≡ s) (given : result ≡ stage) (is : result ≡ Open t) (session : IsSession bytes seen stage) where
@@ -200,31 +245,35 @@ module _ (bytes slice : List ℕ) (seen : Pairs) (stage result : Stage) (t : Tra
   view_open = ap (session_of bytes seen) (sym is ∙ given) ∙ view
 
   -- without a change both maps are the same
-  pub tied_unchanged : (d : DiskState) → t.has_changed ≡ false → FlatTied s d → FlatTied (at_rest (map_among bytes seen)) d
-  tied_unchanged d not tie = tied_same s (at_rest (map_among bytes seen)) d (stands_open.same not ∙ ap (λ (u : FlatSession). (flat_state u).committed) view_open) (ap (λ (u : FlatSession). (flat_state u).is_broken) view_open) tie
+  pub tied_unchanged : (d : DiskState) → t.has_changed ≡ false → FlatTied s d → FlatTied (resting (map_among bytes seen)) d
+  tied_unchanged d not tie = tied_same s (resting (map_among bytes seen)) d (stands_open.same not ∙ ap (λ (u : FlatSession). (flat_state u).committed) view_open) (ap (λ (u : FlatSession). (flat_state u).is_broken) view_open) tie
+
+  -- with one the map seen is the committed one now
+  pub committed_state : t.has_changed ≡ true → flat_state (resting (map_among bytes seen)) ≡ committed flat_kind (flat_state s)
+  committed_state made =
+      sym (ap (λ (b : Bool). committed flat_kind (flat_state (within (map_among bytes seen) (map_among bytes t.committed) b))) made)
+      ∙ ap (λ (u : FlatSession). committed flat_kind (flat_state u)) view_open
 
   -- once the text of the map seen took the file's place
-  pub tied_replaced : (d : DiskState) → slice ≡ bytes → t.has_changed ≡ true → ((i : Image) → d.leaves i → i ≡ Some (canonical_text (map_among slice seen))) → FlatTied (at_rest (map_among bytes seen)) d
+  pub tied_replaced : (d : DiskState) → slice ≡ bytes → t.has_changed ≡ true → ((i : Image) → d.leaves i → i ≡ Some (canonical_text (map_among slice seen))) → FlatTied (resting (map_among bytes seen)) d
   tied_replaced d same made only = record { leaves = λ sound i left. text_opens bytes slice seen i same session.kept (stands_open.fits made) (only i left) }
 
   -- and wherever that stops
   pub disk_replaced : (old new : DiskState) → slice ≡ bytes → t.has_changed ≡ true → FlatTied s old → MayReplace (canonical_text (map_among slice seen)) old new
-      → OnDisk flat_kind (flat_state s) (λ i. flat_opens i (flat_state s).committed ⊎ flat_opens i (flat_state s).seen) old new
+      → OnDisk (flat_state s) (OpensEither flat_kind (flat_state s)) old new
   disk_replaced old new same made tie may = record {
     each = λ sound. record {
       each = λ i n left. let p = may.each.each i n left in
           (p.0, ⊎_elim (λ was. inl (tie.leaves sound i was)) (λ now. inr (subst (flat_opens i) (ap (λ (u : FlatSession). (flat_state u).seen) view_open) (text_opens bytes slice seen i same session.kept (stands_open.fits made) now))) p.1);
     };
     mark = may.mark;
-    in_place = λ in_place. absurd (cc in_place);
   }
 
   -- the committed pairs, among the bytes of before
   pub back_kept : (cut : List ℕ) → cut ≡ take t.end bytes → IsKept cut t.committed × (map_among cut t.committed ≡ map_among bytes t.committed)
   back_kept cut shorter = (
     record {
-      ordered = subst IsOrderedMap (sym map_same) stands_open.committed.ordered;
-      some = subst (All (λ p. p.0 ≢ [])) (sym map_same) stands_open.committed.some;
+      sound = subst IsDbMap (sym map_same) stands_open.committed.sound;
       ends = subst (λ (n : ℕ). All (EndsBy n) t.committed.entries.items) (omega (arith, ap length shorter, length-take-le t.end bytes stands_open.before)) stands_open.ends;
       counted = stands_open.committed.counted ∙ ap (λ (m : Map). length (canonical_text m)) (sym map_same);
       short = omega (arith, ap length shorter, length-take-le t.end bytes stands_open.before, stands_open.before, stands_open.committed.short);
@@ -236,5 +285,5 @@ module _ (bytes slice : List ℕ) (seen : Pairs) (stage result : Stage) (t : Tra
       map_same : map_among cut t.committed ≡ map_among bytes t.committed
       map_same = sym (pairs_below cut bytes t.end t.committed.entries.items (sym shorter ∙ sym (take_all t.end cut (omega (arith, ap length shorter, length-take-le t.end bytes stands_open.before)))) stands_open.ends)
 
-  pub back_state : (cut : List ℕ) → cut ≡ take t.end bytes → flat_state (at_rest (map_among cut t.committed)) ≡ aborted (flat_state s)
-  back_state cut shorter = ap (λ (m : Map). flat_state (at_rest m)) (back_kept cut shorter).1 ∙ ap (λ (u : FlatSession). aborted (flat_state u)) view_open
+  pub back_state : (cut : List ℕ) → cut ≡ take t.end bytes → flat_state (resting (map_among cut t.committed)) ≡ aborted (flat_state s)
+  back_state cut shorter = ap (λ (m : Map). flat_state (resting m)) (back_kept cut shorter).1 ∙ ap (λ (u : FlatSession). aborted (flat_state u)) view_open

@@ -1,7 +1,7 @@
 -- What holds of a map that is kept in memory.
-use Rattle.std.specs.Prelude.{◌≡◌, ◌≢◌, ℕ, ◌≤◌, ◌^◌, List, [], length}
+use Rattle.std.specs.Prelude.{◌≡◌, ℕ, ◌≤◌, ◌^◌, List, length}
 use Rattle.std.specs.List.{All}
-use Rattle.base_bytes.specs.OrderedMap.{Map, IsOrderedMap}
+use Rattle.base_bytes.specs.OrderedMap.{Map, IsDbMap}
 use Rattle.flat_db.specs.FlatText.{canonical_text}
 use Rattle.flat_db.specs.Entries.{EndsBy, pairs_of}
 use Rattle.flat_db.specs.declared.pairs.Pairs.{Pairs}
@@ -10,10 +10,9 @@ use Rattle.flat_db.specs.declared.pairs.Pairs.{Pairs}
 abbrev pub map_among : List ℕ → Pairs → Map
 map_among bytes pairs = pairs_of bytes pairs.entries.items
 
--- Its keys rise and none is empty, each part stands among the bytes, and its text's size is known. Places and sizes are small.
+-- It is the map of a database, each part stands among the bytes, and its text's size is known. Places and sizes are small.
 pub record IsKept (bytes : List ℕ) (pairs : Pairs) : Type 0 where
-  pub ordered : IsOrderedMap (map_among bytes pairs)
-  pub some : All (λ p. p.0 ≢ []) (map_among bytes pairs)
+  pub sound : IsDbMap (map_among bytes pairs)
   pub ends : All (EndsBy (length bytes)) pairs.entries.items
   pub counted : pairs.size ≡ length (canonical_text (map_among bytes pairs))
   pub short : length bytes ≤ 4294967295

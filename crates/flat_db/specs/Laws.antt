@@ -1,7 +1,6 @@
 -- What holds of every text.
 use Rattle.std.specs.Prelude.{◌≡◌, ◌≢◌, ◌↔◌, ℕ, List, [], Option, None}
-use Rattle.std.specs.List.{All}
-use Rattle.base_bytes.specs.OrderedMap.{Map, IsOrderedMap, IsBelow, put}
+use Rattle.base_bytes.specs.OrderedMap.{Map, IsDbMap, put}
 use Rattle.base_bytes.specs.declared.flaw.Damage.{Damage}
 use Rattle.flat_db.specs.FlatText.{FlatTextOf, FirstFlatFlaw, canonical_text}
 
@@ -11,7 +10,7 @@ TextIsOneMap = (text : List ℕ) → (m n : Map) → FlatTextOf text m → FlatT
 
 -- whose keys rise strictly, and are not empty
 abbrev pub TextIsOrdered : Type 0
-TextIsOrdered = (text : List ℕ) → (m : Map) → FlatTextOf text m → IsOrderedMap m × All (λ p. p.0 ≢ []) m
+TextIsOrdered = (text : List ℕ) → (m : Map) → FlatTextOf text m → IsDbMap m
 
 -- a text has one first flaw, or none
 abbrev pub FirstFlawIsOne : Type 0
@@ -24,10 +23,10 @@ FirstFlawExists = (text : List ℕ) → (answer : Option Damage) × FirstFlatFla
 abbrev pub FlawlessOpens : Type 0
 FlawlessOpens = (text : List ℕ) → FirstFlatFlaw text None ↔ ((m : Map) × FlatTextOf text m)
 
--- the canonical text of an ordered map without an empty key is that of this map
+-- the canonical text of the map of a database is that of this map
 abbrev pub CanonicalReadsBack : Type 0
-CanonicalReadsBack = (m : Map) → IsOrderedMap m → All (λ p. p.0 ≢ []) m → FlatTextOf (canonical_text m) m
+CanonicalReadsBack = (m : Map) → IsDbMap m → FlatTextOf (canonical_text m) m
 
 -- so is that of the map of a text with a pair put
 abbrev pub PutReadsBack : Type 0
-PutReadsBack = (text key value : List ℕ) → (m : Map) → IsBelow [] key → FlatTextOf text m → FlatTextOf (canonical_text (put m key value)) (put m key value)
+PutReadsBack = (text key value : List ℕ) → (m : Map) → key ≢ [] → FlatTextOf text m → FlatTextOf (canonical_text (put m key value)) (put m key value)

@@ -6,6 +6,5 @@ pub mod Lines
 pub mod Opening
 pub mod Places
 pub mod Reading
-pub mod Replacing
 pub mod Sessions
 pub mod Writing

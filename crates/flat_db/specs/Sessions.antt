@@ -1,14 +1,16 @@
 -- A session over a flat file: its kind, its state by its parts, and its tie to the disk.
-use Rattle.std.proofs.Common.{refl}
-use Rattle.std.specs.Prelude.{◌≡◌, ℕ, ◌≤◌, Bool, true, false, List, [], length}
+use Rattle.std.proofs.Common.{refl, sym, ◌∙◌}
+use Rattle.std.specs.Prelude.{◌≡◌, ℕ, ◌≤◌, Bool, true, false, List, [], Result, length}
 use Rattle.std.specs.List.{All}
 use Rattle.base_devices.specs.CrashImages.{Image, DiskState}
 use Rattle.base_bytes.specs.OrderedMap.{Map}
 use Rattle.base_bytes.specs.Transactions.{after_change}
 use Rattle.base_bytes.specs.declared.limits.TheConstants.{FLAT_LIMIT}
-use Rattle.db_core.specs.Sessions.{DbKind, DbState, aborted}
-use Rattle.db_core.specs.WholeTransactions.{plain}
-use Rattle.flat_db.specs.FlatText.{canonical_text}
+use Rattle.base_bytes.specs.declared.change.Change.{Change}
+use Rattle.db_core.specs.Refusals.{Answers, change_refusal}
+use Rattle.db_core.specs.Sessions.{DbKind, DbState, at_rest, aborted, change_after}
+use Rattle.db_core.specs.declared.fault.DbFault.{DbFault}
+use Rattle.flat_db.specs.FlatText.{IsFlawedAt, canonical_text}
 use Rattle.flat_db.specs.Entries.{EndsBy}
 use Rattle.flat_db.specs.Kept.{IsKept, map_among}
 use Rattle.flat_db.specs.Opening.{flat_opens}
@@ -17,27 +19,36 @@ use Rattle.flat_db.specs.declared.session.Transaction.{Transaction}
 use Rattle.flat_db.specs.declared.session.Stage.{Stage}
 use Rattle.flat_db.specs.declared.session.Stage.TheVariants.{Resting, Open, Broken}
 
--- Flat text has no load: the size of the file that would come is that of the changed map's canonical text.
+-- Flat text has no load: the size of the file that would come is that of the changed map's canonical text. A file is only synced and read when it is opened.
 abbrev pub flat_kind : DbKind
 flat_kind = record {
   opens = flat_opens;
+  flawed = IsFlawedAt;
   limit = FLAT_LIMIT;
+  empty = [];
+  load_of = λ _. 0;
+  is_settled = λ _. Unit {0};
   load_after = λ _ load _. load;
-  size_after = λ seen _ change. length (canonical_text (after_change seen (plain change)));
+  size_after = λ seen _ change. length (canonical_text (after_change seen change));
   load_committed = λ load. load;
   works_in_place = false;
 }
 
 -- What a contract sees of a session: at rest over its map, or in a transaction over the map seen and the committed one, or broken.
 pub data FlatSession : Type 0 where
-  at_rest : Map → FlatSession
+  resting : Map → FlatSession
   within : (seen committed : Map) → (has_changed : Bool) → FlatSession
   broken : FlatSession
 
 abbrev pub flat_state : FlatSession → DbState
-flat_state (at_rest m) = record { seen = m; committed = m; load = 0; load_committed = 0; in_transaction = false; has_changed = false; is_broken = false }
+flat_state (resting m) = at_rest m 0
 flat_state (within seen committed has_changed) = record { seen = seen; committed = committed; load = 0; load_committed = 0; in_transaction = true; has_changed = has_changed; is_broken = false }
 flat_state broken = record { seen = []; committed = []; load = 0; load_committed = 0; in_transaction = false; has_changed = false; is_broken = true }
+
+-- one change of the session alone, answered as it is owed
+abbrev pub AnswersChange : {T : Type 0} → Change → FlatSession → FlatSession → Result T DbFault → Type 0
+AnswersChange change old new result =
+    Answers (change_refusal flat_kind (flat_state old) change) (flat_state old) (flat_state new) (change_after flat_kind (flat_state old) change) result
 
 -- each image that a crash may leave opens to the committed map
 pub record FlatTied (session : FlatSession) (disk : DiskState) : Type 0 where
@@ -45,19 +56,23 @@ pub record FlatTied (session : FlatSession) (disk : DiskState) : Type 0 where
 
 -- outside a transaction the map seen is the committed one
 pub outside_same : (session : FlatSession) → (flat_state session).is_broken ≡ false → (flat_state session).in_transaction ≡ false → aborted (flat_state session) ≡ flat_state session
-outside_same (at_rest m) sound closed = refl
+outside_same (resting m) sound closed = refl
 outside_same (within seen committed has_changed) sound closed = absurd (cc closed)
 outside_same broken sound closed = absurd (cc sound)
 
 pub broken_rests : (session : FlatSession) → (flat_state session).is_broken ≡ true → (flat_state session).in_transaction ≡ false
-broken_rests (at_rest m) is = refl
+broken_rests (resting m) is = refl
 broken_rests (within seen committed has_changed) is = absurd (cc is)
 broken_rests broken is = refl
+
+-- a broken session is tied to every disk
+pub broken_ties : (session : FlatSession) (disk : DiskState) → (flat_state session).is_broken ≡ true → FlatTied session disk
+broken_ties session disk is = record { leaves = λ sound c left. absurd (cc (sym is ∙ sound)) }
 
 -- ---- by its parts
 
 abbrev pub session_of : List ℕ → Pairs → Stage → FlatSession
-session_of bytes seen Resting = at_rest (map_among bytes seen)
+session_of bytes seen Resting = resting (map_among bytes seen)
 session_of bytes seen (Open t) = within (map_among bytes seen) (map_among bytes t.committed) t.has_changed
 session_of bytes seen Broken = broken
 

@@ -1,15 +1,15 @@
 // The pairs of a map, by where their keys and values stand among some bytes.
-ghost use Rattle.std.specs.Prelude.{◌≡◌, ◌<◌, ◌≤◌, ◌++◌, [], ℕ, List, IfOk, IfErr, OnErr, OnOk, length, slice_get};
+ghost use Rattle.std.specs.Prelude.{◌≡◌, ◌<◌, ◌≤◌, ◌++◌, ℕ, List, IfOk, IfErr, OnErr, OnOk, length, slice_get};
 ghost use Rattle.std.specs.Option.{option_copied};
-ghost use Rattle.base_bytes.specs.OrderedMap.{IsBelow, put, value_at, without};
-ghost use Rattle.db_core.specs.Answers.{pair_of as pair_lent};
+ghost use Rattle.base_bytes.specs.OrderedMap.{put, value_at, without};
+ghost use Rattle.db_core.specs.Refusals.{pair_of as pair_lent};
 ghost use Rattle.flat_db.specs.FlatText.{canonical_text};
 ghost use Rattle.flat_db.specs.Entries.{EndsBy, pair_of};
 ghost use Rattle.flat_db.specs.Kept.{IsKept, SameEntries, map_among};
-ghost use Rattle.flat_db.specs.Places.{HasKeyAt, LacksKeyAt};
+ghost use Rattle.flat_db.specs.Places.{HasKeyAt, IsPlaceOf, LacksKeyAt};
 
 use crate::entries::{Entry, Span, part};
-use crate::places::place_among;
+use crate::places::{lower_keys, place_among};
 use crate::reading::line_size;
 use base_bytes::{FLAT_LIMIT, KEY_LIMIT, NoMemory, Pair, VALUE_LIMIT, escaped_size};
 use std::alloc::Global;
@@ -78,6 +78,14 @@ impl Pairs {
         place_among(bytes, &self.entries, key)
     }
 
+    /// How many pairs have a lower key: the place of the first one whose key is not below this one.
+    pub(crate) fn place_from(&self, bytes: &[u8], key: &[u8]) -> usize
+        requires { IsKept bytes.now self.now }
+        ensures { IsPlaceOf key.now (map_among bytes.now self.now) result }
+    {
+        lower_keys(bytes, &self.entries, key)
+    }
+
     /// The value of a key.
     pub(crate) fn value_of<'a>(&self, bytes: &'a [u8], key: &[u8]) -> Option<&'a [u8]>
         requires { IsKept bytes.now self.now }
@@ -135,7 +143,8 @@ impl Pairs {
         size: u64,
     ) -> Result<(), NoMemory>
         requires kept { IsKept bytes.old.items self.old }
-        requires key { IsBelow [] key.now × (length key.now ≤ KEY_LIMIT) }
+        requires some { 0 < length key.now }
+        requires key { length key.now ≤ KEY_LIMIT }
         requires value { length value.now ≤ VALUE_LIMIT }
         requires size { size ≡ length (canonical_text (put (map_among bytes.old.items self.old) key.now value.now)) }
         requires fits { size ≤ FLAT_LIMIT }

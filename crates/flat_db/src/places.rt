@@ -8,7 +8,7 @@ use crate::entries::{Entry, part};
 use base_bytes::compare_keys;
 
 // How many entries have a lower key.
-fn lower_keys(bytes: &[u8], entries: &[Entry], key: &[u8]) -> usize
+pub(crate) fn lower_keys(bytes: &[u8], entries: &[Entry], key: &[u8]) -> usize
     requires { IsOrderedMap (pairs_of bytes.now entries.now) }
     ensures { IsPlaceOf key.now (pairs_of bytes.now entries.now) result }
 {

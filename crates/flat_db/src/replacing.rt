@@ -1,12 +1,12 @@
 // The main file is replaced: a whole new text is written beside it, synced, and put in its place.
-ghost use Rattle.std.specs.Prelude.{◌≡◌, ◌⊎◌, [], Some, IsSome, OnOk};
+ghost use Rattle.std.specs.Prelude.{◌≡◌, ◌⊎◌, [], Some, OnOk};
 ghost use Rattle.base_devices.specs.Causes.{HasCause};
-ghost use Rattle.base_devices.specs.CrashImages.{IsDurable, LeavesOnly};
-ghost use Rattle.base_devices.specs.Frames.{StaysAs};
+ghost use Rattle.base_devices.specs.CrashImages.{IsDurable, LeavesOnly, Shows};
+ghost use Rattle.base_devices.specs.Frames.{MayReplace, Replaces, StaysAs};
 ghost use Rattle.base_devices.specs.DiskCalls.{fresh_bytes};
 ghost use Rattle.flat_db.specs.FlatText.{canonical_text};
 ghost use Rattle.flat_db.specs.Kept.{map_among};
-ghost use Rattle.flat_db.specs.Replacing.{Replaces, MayReplace};
+ghost use Rattle.flat_db.specs.Sessions.{flat_kind};
 
 use crate::pairs::Pairs;
 use crate::writing::{flush, write_pairs};
@@ -14,14 +14,15 @@ use base_bytes::Piece;
 use base_devices::{Disk, Failed};
 
 // Writes the new file: the canonical text of a map.
-fn write_new<D: Disk>(
+fn write_text<D: Disk>(
     disk: &mut D,
     bytes: &[u8],
     pairs: &Pairs,
     piece: &mut Piece,
 ) -> Result<(), Failed>
     requires { piece.old ≡ [] }
-    ensures written { OnOk result (IsSome (D.state disk.old).reads → fresh_bytes (D.state disk.new).fresh ≡ Some (canonical_text (map_among bytes.now pairs.now))) }
+    ensures written { OnOk result (Shows (D.state disk.old) → fresh_bytes (D.state disk.new).fresh
+        ≡ Some (canonical_text (map_among bytes.now pairs.now))) }
     ensures stays { StaysAs (D.state disk.old) (D.state disk.new) }
     ensures cause { HasCause (D.state disk.old).faults (D.state disk.new).faults result }
     ensures rest { D.disk_rest disk.old disk.new }
@@ -39,12 +40,14 @@ pub(crate) fn replace<D: Disk>(
     piece: &mut Piece,
 ) -> Result<(), Failed>
     requires { piece.old ≡ [] }
-    ensures replaces { Replaces (canonical_text (map_among bytes.now pairs.now)) (D.state disk.old) (D.state disk.new) result }
-    ensures any_moment { MayReplace (canonical_text (map_among bytes.now pairs.now)) (D.state disk.old) (D.state disk.new) }
+    ensures replaces { Replaces (canonical_text (map_among bytes.now pairs.now))
+        (D.state disk.old) (D.state disk.new) result }
+    ensures any_moment { MayReplace (canonical_text (map_among bytes.now pairs.now))
+        (D.state disk.old) (D.state disk.new) }
     ensures cause { HasCause (D.state disk.old).faults (D.state disk.new).faults result }
     ensures rest { D.disk_rest disk.old disk.new }
 {
-    write_new(disk, bytes, pairs, piece)?;
+    write_text(disk, bytes, pairs, piece)?;
     disk.new_sync()?;
     disk.publish()
 }
@@ -53,8 +56,8 @@ pub(crate) fn replace<D: Disk>(
 ///
 /// Wherever it stops, the file is one that could be left before, or empty, and after Ok only empty.
 pub fn create<D: Disk>(disk: &mut D) -> Result<(), Failed>
-    ensures replaces { Replaces [] (D.state disk.old) (D.state disk.new) result }
-    ensures any_moment { MayReplace [] (D.state disk.old) (D.state disk.new) }
+    ensures replaces { Replaces flat_kind.empty (D.state disk.old) (D.state disk.new) result }
+    ensures any_moment { MayReplace flat_kind.empty (D.state disk.old) (D.state disk.new) }
     ensures cause { HasCause (D.state disk.old).faults (D.state disk.new).faults result }
     ensures rest { D.disk_rest disk.old disk.new }
 {

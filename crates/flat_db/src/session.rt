@@ -1,20 +1,22 @@
 // A session over a flat file, whose text is rewritten whole by each transaction that changed something.
-ghost use Rattle.std.specs.Prelude.{◌≡◌, ◌⊎◌, [], true, false, Some, IsSome, IsErrOf, IfOk, IfErr, OnOk};
-ghost use Rattle.base_bytes.specs.OrderedMap.{IsOrderedMap};
-ghost use Rattle.db_core.specs.Answers.{Answers, HasDbCause, IsDiskFault, OnDisk, broken_refusal};
-ghost use Rattle.db_core.specs.Sessions.{committed};
+ghost use Rattle.std.specs.Prelude.{◌≡◌, ◌⊎◌, [], true, false, IsErrOf, IfOk, IfErr, OnOk, is_some, drop};
+ghost use Rattle.base_bytes.specs.OrderedMap.{IsDbMap, value_at};
+ghost use Rattle.base_bytes.specs.declared.change.Change.TheVariants.{Put, Del};
+ghost use Rattle.base_devices.specs.CrashImages.{Reads, Shows};
+ghost use Rattle.db_core.specs.Calls.{Commits};
+ghost use Rattle.db_core.specs.Refusals.{Answers, IsDiskFault, LeavesDisk, broken_refusal};
+ghost use Rattle.db_core.specs.Sessions.{aborted, over};
 ghost use Rattle.db_core.specs.declared.fault.DbFault.TheVariants.{NoMemory as MemoryRanOut};
 ghost use Rattle.flat_db.specs.FlatText.{canonical_text};
 ghost use Rattle.flat_db.specs.Kept.{SameEntries};
-ghost use Rattle.flat_db.specs.Opening.{flat_opens};
-ghost use Rattle.flat_db.specs.Sessions.{FlatTied, at_rest, changed, flat_kind, flat_state};
+ghost use Rattle.flat_db.specs.Sessions.{AnswersChange, FlatTied, changed, flat_kind, flat_state, resting};
 
 use crate::flat_map::FlatMap;
 use crate::pairs::Pairs;
 use crate::replacing::replace;
 use base_bytes::{FLAT_LIMIT, NoMemory, Pair, Piece};
 use base_devices::Disk;
-use db_core::{Db, DbFault, pair_fault};
+use db_core::{Cursor, Db, DbFault, Step, pair_fault};
 use std::alloc::Global;
 use std::marker::Model;
 use std::mem;
@@ -90,8 +92,7 @@ impl Model for FlatDb {
 impl FlatDb {
     // A session over the map of a text.
     pub(crate) fn over(alloc: Global, map: FlatMap) -> FlatDb
-        ensures rests { result ≡ at_rest map }
-        ensures ordered { IsOrderedMap map }
+        ensures { result ≡ resting map }
     {
         FlatDb {
             alloc,
@@ -106,16 +107,85 @@ impl FlatDb {
     {
         matches!(self.stage, Stage::Broken)
     }
+
+    // Puts the pair into the map seen. What word a pair has makes no difference to flat text.
+    fn put_pair(&mut self, key: &[u8], value: &[u8]) -> Result<(), DbFault>
+        requires { (flat_state self.old).is_broken ≡ false → (flat_state self.old).in_transaction ≡ true }
+        ensures answer { AnswersChange (Put 0 key.now value.now) self.old self.new result }
+        ensures no_fault { IfErr result (λ fault. ¬ IsDiskFault fault) }
+    {
+        if self.is_broken() {
+            return Err(DbFault::Broken);
+        }
+        if let Some(fault) = pair_fault(key, value) {
+            return Err(fault);
+        }
+        let size = self.seen.size_with(&self.bytes, key, value);
+        if size > FLAT_LIMIT {
+            return Err(DbFault::Full { size });
+        }
+        let Ok(()) = self.seen.put(&mut self.bytes, key, value, size) else {
+            return Err(DbFault::NoMemory);
+        };
+        self.stage.note_change();
+        Ok(())
+    }
+
+    // Takes the key out of the map seen, and answers whether it was there.
+    fn take_out(&mut self, key: &[u8]) -> Result<bool, DbFault>
+        requires { (flat_state self.old).is_broken ≡ false → (flat_state self.old).in_transaction ≡ true }
+        ensures was_there { IfOk result
+            (λ was. was ≡ is_some (value_at (flat_state self.old).seen key.now)) }
+        ensures answer { AnswersChange (Del key.now) self.old self.new result }
+        ensures no_fault { IfErr result (λ fault. ¬ IsDiskFault fault) }
+    {
+        if self.is_broken() {
+            return Err(DbFault::Broken);
+        }
+        let Ok(place) = self.seen.place_of(&self.bytes, key) else {
+            return Ok(false);
+        };
+        let size = self.seen.size_without(&self.bytes, place);
+        if size > FLAT_LIMIT {
+            return Err(DbFault::Full { size });
+        }
+        let _ = self.seen.entries.remove(place);
+        self.seen.size = size;
+        self.stage.note_change();
+        Ok(true)
+    }
+
+    // Goes back to the committed map.
+    fn go_back(&mut self) -> Result<(), DbFault>
+        requires { (flat_state self.old).is_broken ≡ false → (flat_state self.old).in_transaction ≡ true }
+        ensures answer { let s = flat_state self.old in
+            Answers (broken_refusal s) s (flat_state self.new) (aborted s) result }
+        ensures no_fault { IfErr result (λ fault. ¬ IsDiskFault fault) }
+        ensures has_memory { ¬ IsErrOf result MemoryRanOut }
+    {
+        if self.is_broken() {
+            return Err(DbFault::Broken);
+        }
+        let Stage::Open(transaction) = mem::replace(&mut self.stage, Stage::Resting) else {
+            return Ok(());
+        };
+        self.bytes.truncate(transaction.end);
+        self.seen = transaction.committed;
+        Ok(())
+    }
 }
 
 impl<D: Disk> Db<D> for FlatDb {
-    ghost use Rattle.flat_db.specs.Sessions.{outside_same, broken_rests};
+    ghost use Rattle.flat_db.specs.Sessions.{outside_same, broken_rests, broken_ties};
 
     ghost kind = { flat_kind };
 
     ghost state = { flat_state };
 
     ghost tie = { λ s d. FlatTied s (D.state d) };
+
+    // A place is the number of pairs in front of it.
+    ghost walks = { λ s place left. left ≡ drop place (flat_state s).seen };
 
     fn in_transaction(&self) -> bool {
         matches!(self.stage, Stage::Open(_))
@@ -134,15 +204,32 @@ impl<D: Disk> Db<D> for FlatDb {
     }
 
     fn at_least(&self, key: &[u8]) -> Option<Pair<'_>> {
-        match self.seen.place_of(&self.bytes, key) {
-            Ok(place) | Err(place) => self.seen.pair_at(&self.bytes, place),
-        }
+        let place = self.seen.place_from(&self.bytes, key);
+        self.seen.pair_at(&self.bytes, place)
     }
 
     fn after(&self, key: &[u8]) -> Option<Pair<'_>> {
         match self.seen.place_of(&self.bytes, key) {
             Ok(place) => self.seen.pair_at(&self.bytes, place + 1),
             Err(place) => self.seen.pair_at(&self.bytes, place),
+        }
+    }
+
+    fn walk_from(&self, key: &[u8]) -> Cursor {
+        Cursor {
+            place: self.seen.place_from(&self.bytes, key) as u64,
+        }
+    }
+
+    fn step(&self, cursor: Cursor) -> Option<Step<'_>> {
+        match self.seen.pair_at(&self.bytes, cursor.place as usize) {
+            Some(pair) => Some(Step {
+                pair,
+                next: Cursor {
+                    place: cursor.place + 1,
+                },
+            }),
+            None => None,
         }
     }
 
@@ -166,54 +253,27 @@ impl<D: Disk> Db<D> for FlatDb {
         key: &[u8],
         value: &[u8],
     ) -> Result<(), DbFault> {
-        if self.is_broken() {
-            return Err(DbFault::Broken);
-        }
-        if let Some(fault) = pair_fault(key, value) {
-            return Err(fault);
-        }
-        let size = self.seen.size_with(&self.bytes, key, value);
-        if size > FLAT_LIMIT {
-            return Err(DbFault::Full { size });
-        }
-        let Ok(()) = self.seen.put(&mut self.bytes, key, value, size) else {
-            return Err(DbFault::NoMemory);
-        };
-        self.stage.note_change();
-        Ok(())
+        self.put_pair(key, value)
     }
 
     fn delete(&mut self, _disk: &mut D, key: &[u8]) -> Result<bool, DbFault> {
-        if self.is_broken() {
-            return Err(DbFault::Broken);
-        }
-        let Ok(place) = self.seen.place_of(&self.bytes, key) else {
-            return Ok(false);
-        };
-        let size = self.seen.size_without(&self.bytes, place);
-        if size > FLAT_LIMIT {
-            return Err(DbFault::Full { size });
-        }
-        let _ = self.seen.entries.remove(place);
-        self.seen.size = size;
-        self.stage.note_change();
-        Ok(true)
+        self.take_out(key)
     }
 
     fn commit(&mut self, disk: &mut D) -> Result<(), DbFault>
         requires within { (flat_state self.old).is_broken ≡ false → (flat_state self.old).in_transaction ≡ true }
         requires tied { FlatTied self.old (D.state disk.old) }
-        ensures answer { Answers (broken_refusal (flat_state self.old)) (flat_state self.old) (flat_state self.new) (committed flat_kind (flat_state self.old)) result }
-        ensures has_memory { IsErrOf result MemoryRanOut → ⊥ }
-        ensures unharmed { IfErr result (λ fault. IsDiskFault fault ⊎ (disk.new ≡ disk.old)) }
+        ensures commit { Commits flat_kind (over (D.state disk.old) (flat_state self.old))
+            (over (D.state disk.new) (flat_state self.new)) result }
+        ensures has_memory { ¬ IsErrOf result MemoryRanOut }
+        ensures unharmed { LeavesDisk result disk.old disk.new }
         ensures untouched { (flat_state self.old).has_changed ≡ false → OnOk result (disk.new ≡ disk.old) }
-        ensures disk { OnDisk flat_kind (flat_state self.old) (λ c. flat_opens c (flat_state self.old).committed ⊎ flat_opens c (flat_state self.old).seen) (D.state disk.old) (D.state disk.new) }
-        ensures cause { HasDbCause (D.state disk.old).faults (D.state disk.new).faults result }
         ensures tied { FlatTied self.new (D.state disk.new) }
         ensures rest { D.disk_rest disk.old disk.new }
 
         // A transaction that changed something leaves the canonical text of the map seen.
-        ensures text { (flat_state self.old).has_changed ≡ true → OnOk result (IsSome (D.state disk.old).reads → (D.state disk.new).reads ≡ Some (Some (canonical_text (flat_state self.old).seen))) }
+        ensures text { (flat_state self.old).has_changed ≡ true → OnOk result (Shows (D.state disk.old)
+            → Reads (D.state disk.new) (canonical_text (flat_state self.old).seen)) }
     {
         if self.is_broken() {
             return Err(DbFault::Broken);
@@ -234,20 +294,14 @@ impl<D: Disk> Db<D> for FlatDb {
     }
 
     fn abort(&mut self, _disk: &mut D) -> Result<(), DbFault> {
-        if self.is_broken() {
-            return Err(DbFault::Broken);
-        }
-        let Stage::Open(transaction) = mem::replace(&mut self.stage, Stage::Resting) else {
-            return Ok(());
-        };
-        self.bytes.truncate(transaction.end);
-        self.seen = transaction.committed;
-        Ok(())
+        self.go_back()
     }
 
     ghost tie_rests = { λ b old new reads leaves tie. record { leaves = λ sound c left. tie.leaves sound c (leaves.no_more c left) } };
 
     ghost tie_opens = { λ b d sound tie c left. tie.leaves sound c left };
+
+    ghost broken_tied = { λ b d is. broken_ties b (D.state d) is };
 
     ghost outside = { λ b sound closed. outside_same b sound closed };
 

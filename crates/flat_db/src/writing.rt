@@ -1,10 +1,12 @@
 // A map is written as its canonical text, in pieces, into the new file of a disk.
 ghost use Rattle.std.specs.Prelude.{◌≡◌, ◌<◌, ◌≤◌, ◌+◌, ◌-◌, ◌∷◌, ◌++◌, [], IsSome, OnOk, length};
+ghost use Rattle.std.specs.Result.{IsOk};
 ghost use Rattle.base_bytes.specs.Escapes.{escaped};
-ghost use Rattle.flat_db.specs.FlatText.{canonical_text, pair_line};
-ghost use Rattle.flat_db.specs.Entries.{part_of, pairs_of};
 ghost use Rattle.base_bytes.specs.declared.limits.TheConstants.{PIECE_SIZE};
-ghost use Rattle.flat_db.specs.Writing.{AddsBytes};
+ghost use Rattle.base_devices.specs.CrashImages.{Shows};
+ghost use Rattle.flat_db.specs.Entries.{pairs_of};
+ghost use Rattle.flat_db.specs.FlatText.{canonical_text, pair_line};
+ghost use Rattle.flat_db.specs.Writing.{AddsBytes, Gathers, filling};
 
 use crate::entries::{Entry, part};
 use base_bytes::Piece;
@@ -12,8 +14,9 @@ use base_devices::{Disk, Failed};
 
 // Writes what is gathered.
 pub(crate) fn flush<D: Disk>(disk: &mut D, piece: &mut Piece) -> Result<(), Failed>
-    requires { IsSome (D.state disk.old).reads → IsSome (D.state disk.old).fresh }
-    ensures adds { AddsBytes (D.state disk.old) (D.state disk.new) piece.old piece.new [] result }
+    requires { Shows (D.state disk.old) → IsSome (D.state disk.old).fresh }
+    ensures adds { AddsBytes [] (filling (D.state disk.old) piece.old)
+        (filling (D.state disk.new) piece.new) result }
     ensures empty { OnOk result (piece.new ≡ []) }
     ensures rest { D.disk_rest disk.old disk.new }
 {
@@ -24,9 +27,12 @@ pub(crate) fn flush<D: Disk>(disk: &mut D, piece: &mut Piece) -> Result<(), Fail
 
 // Writes what is gathered where it leaves no room for an escape.
 fn make_room<D: Disk>(disk: &mut D, piece: &mut Piece) -> Result<(), Failed>
-    requires { IsSome (D.state disk.old).reads → IsSome (D.state disk.old).fresh }
-    ensures adds { AddsBytes (D.state disk.old) (D.state disk.new) piece.old piece.new [] result }
+    requires { Shows (D.state disk.old) → IsSome (D.state disk.old).fresh }
+    ensures adds { AddsBytes [] (filling (D.state disk.old) piece.old)
+        (filling (D.state disk.new) piece.new) result }
     ensures room { OnOk result (length piece.new + 2 ≤ PIECE_SIZE) }
+    ensures still { length piece.old + 2 ≤ PIECE_SIZE
+        → (disk.new ≡ disk.old) × (piece.new ≡ piece.old) × IsOk result }
     ensures rest { D.disk_rest disk.old disk.new }
 {
     if piece.room() < 2 {
@@ -37,8 +43,11 @@ fn make_room<D: Disk>(disk: &mut D, piece: &mut Piece) -> Result<(), Failed>
 
 // Writes a field, escaped.
 fn write_field<D: Disk>(disk: &mut D, field: &[u8], piece: &mut Piece) -> Result<(), Failed>
-    requires { IsSome (D.state disk.old).reads → IsSome (D.state disk.old).fresh }
-    ensures adds { AddsBytes (D.state disk.old) (D.state disk.new) piece.old piece.new (escaped field.now) result }
+    requires { Shows (D.state disk.old) → IsSome (D.state disk.old).fresh }
+    ensures adds { AddsBytes (escaped field.now) (filling (D.state disk.old) piece.old)
+        (filling (D.state disk.new) piece.new) result }
+    ensures gathers { Gathers (escaped field.now)
+        (disk.old, piece.old) (disk.new, piece.new) result }
     ensures rest { D.disk_rest disk.old disk.new }
 {
     let mut at = 0;
@@ -51,8 +60,10 @@ fn write_field<D: Disk>(disk: &mut D, field: &[u8], piece: &mut Piece) -> Result
 
 // Writes one byte as it is.
 fn write_byte<D: Disk>(disk: &mut D, byte: u8, piece: &mut Piece) -> Result<(), Failed>
-    requires { IsSome (D.state disk.old).reads → IsSome (D.state disk.old).fresh }
-    ensures adds { AddsBytes (D.state disk.old) (D.state disk.new) piece.old piece.new (byte ∷ []) result }
+    requires { Shows (D.state disk.old) → IsSome (D.state disk.old).fresh }
+    ensures adds { AddsBytes (byte ∷ []) (filling (D.state disk.old) piece.old)
+        (filling (D.state disk.new) piece.new) result }
+    ensures gathers { Gathers (byte ∷ []) (disk.old, piece.old) (disk.new, piece.new) result }
     ensures rest { D.disk_rest disk.old disk.new }
 {
     make_room(disk, piece)?;
@@ -62,8 +73,11 @@ fn write_byte<D: Disk>(disk: &mut D, byte: u8, piece: &mut Piece) -> Result<(), 
 
 // Writes a field, escaped, and the byte that ends it.
 fn write_part<D: Disk>(disk: &mut D, field: &[u8], end: u8, piece: &mut Piece) -> Result<(), Failed>
-    requires { IsSome (D.state disk.old).reads → IsSome (D.state disk.old).fresh }
-    ensures adds { AddsBytes (D.state disk.old) (D.state disk.new) piece.old piece.new (escaped field.now ++ end ∷ []) result }
+    requires { Shows (D.state disk.old) → IsSome (D.state disk.old).fresh }
+    ensures adds { AddsBytes (escaped field.now ++ end ∷ []) (filling (D.state disk.old) piece.old)
+        (filling (D.state disk.new) piece.new) result }
+    ensures gathers { Gathers (escaped field.now ++ end ∷ [])
+        (disk.old, piece.old) (disk.new, piece.new) result }
     ensures rest { D.disk_rest disk.old disk.new }
 {
     write_field(disk, field, piece)?;
@@ -73,16 +87,19 @@ fn write_part<D: Disk>(disk: &mut D, field: &[u8], end: u8, piece: &mut Piece) -
 // Writes the line of a pair.
 fn write_line<D: Disk>(
     disk: &mut D,
-    bytes: &[u8],
-    entry: Entry,
+    key: &[u8],
+    value: &[u8],
     piece: &mut Piece,
 ) -> Result<(), Failed>
-    requires { IsSome (D.state disk.old).reads → IsSome (D.state disk.old).fresh }
-    ensures adds { AddsBytes (D.state disk.old) (D.state disk.new) piece.old piece.new (pair_line (part_of bytes.now entry.key) (part_of bytes.now entry.value)) result }
+    requires { Shows (D.state disk.old) → IsSome (D.state disk.old).fresh }
+    ensures adds { AddsBytes (pair_line key.now value.now) (filling (D.state disk.old) piece.old)
+        (filling (D.state disk.new) piece.new) result }
+    ensures gathers { Gathers (pair_line key.now value.now)
+        (disk.old, piece.old) (disk.new, piece.new) result }
     ensures rest { D.disk_rest disk.old disk.new }
 {
-    write_part(disk, part(bytes, entry.key), b'\t', piece)?;
-    write_part(disk, part(bytes, entry.value), b'\n', piece)
+    write_part(disk, key, b'\t', piece)?;
+    write_part(disk, value, b'\n', piece)
 }
 
 /// Adds the canonical text of some pairs to the new file: to what is gathered, and in full pieces as they come.
@@ -92,12 +109,20 @@ pub(crate) fn write_pairs<D: Disk>(
     entries: &[Entry],
     piece: &mut Piece,
 ) -> Result<(), Failed>
-    requires { IsSome (D.state disk.old).reads → IsSome (D.state disk.old).fresh }
-    ensures adds { AddsBytes (D.state disk.old) (D.state disk.new) piece.old piece.new (canonical_text (pairs_of bytes.now entries.now)) result }
+    requires { Shows (D.state disk.old) → IsSome (D.state disk.old).fresh }
+    ensures adds { AddsBytes (canonical_text (pairs_of bytes.now entries.now))
+        (filling (D.state disk.old) piece.old) (filling (D.state disk.new) piece.new) result }
+    ensures gathers { Gathers (canonical_text (pairs_of bytes.now entries.now))
+        (disk.old, piece.old) (disk.new, piece.new) result }
     ensures rest { D.disk_rest disk.old disk.new }
 {
     for entry in entries {
-        write_line(disk, bytes, *entry, piece)?;
+        write_line(
+            disk,
+            part(bytes, entry.key),
+            part(bytes, entry.value),
+            piece,
+        )?;
     }
     Ok(())
 }

@@ -32,8 +32,7 @@ invariant_of-result c =
     let counted : c.text_size-size.result ≡ length (canonical_text (pairs_of read sorted)) =
     c.text_size-size.ensures ∙ ap (λ (l : List ℕ). length (canonical_text (pairs_of l c.deref-4.result.now))) (c.deref-3.ensures.value ∙ whole) ∙ ap (λ (e : List Entry). length (canonical_text (pairs_of read e))) c.deref-4.ensures.value in
     subst (λ (l : List ℕ). IsKept l (record { entries = c.in_order.new.entries; size = c.text_size-size.result })) (sym whole) (record {
-      ordered = (text_is_ordered c.args.text.items (pairs_of read sorted) of).0;
-      some = (text_is_ordered c.args.text.items (pairs_of read sorted) of).1;
+      sound = text_is_ordered c.args.text.items (pairs_of read sorted) of;
       ends = c.in-Ok-in_order.ensures.ends (length read) c.in_ok-read_lines.ensures.ends;
       counted = counted;
       short = omega arith;

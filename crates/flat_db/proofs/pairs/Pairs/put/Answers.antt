@@ -1,4 +1,4 @@
-use Rattle.std.proofs.Common.{◌≡◌, ◌∙◌, ℕ, List, length, set, refl, sym, ap, subst}
+use Rattle.std.proofs.Common.{◌≡◌, ◌∙◌, ℕ, List, length, set, refl, sym, ap, subst, arith}
 use Rattle.std.specs.List.{All, insert}
 use Rattle.base_bytes.specs.OrderedMap.{Map, put}
 use Rattle.flat_db.specs.FlatText.{canonical_text}
@@ -55,7 +55,7 @@ returns-clause-kept c =
     let key = c.args.key.now in
     let value = c.args.value.now in
     let among = put_among c in
-    put_kept new key value c.args.self.now _ (grown_kept c.args.bytes.now.items new c.append.ensures.grown.0 c.args.self.now c.append.ensures.grown.1 c.append.ensures.short c.requires.kept) c.requires.key.0 among.0 among.1
+    put_kept new key value c.args.self.now _ (grown_kept c.args.bytes.now.items new c.append.ensures.grown.0 c.args.self.now c.append.ensures.grown.1 c.append.ensures.short c.requires.kept) (λ is. omega (arith, c.requires.some, ap length is)) among.0 among.1
     (c.requires.size ∙ ap (λ (m : Map). length (canonical_text (put m key value))) (sym (map_before c))) c.requires.fits
 
 pub returns-clause-done : goal.returns-clause-done

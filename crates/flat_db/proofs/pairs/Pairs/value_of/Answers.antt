@@ -10,4 +10,4 @@ returns-in-Ok c =
     ∙ sym (value_own c.args.key.now (map_among c.args.bytes.now c.args.self.now) c.in-Ok.place c.in-Ok.ensures.own)
 
 pub returns-in-Err : goal.returns-in-Err
-returns-in-Err c = sym (value_lacks c.args.key.now (map_among c.args.bytes.now c.args.self.now) c.in-Err.field-0 c.in-Err.ensures.between c.requires.ordered)
+returns-in-Err c = sym (value_lacks c.args.key.now (map_among c.args.bytes.now c.args.self.now) c.in-Err.field-0 c.in-Err.ensures.between c.requires.sound.ordered)

@@ -1,28 +1,12 @@
-use Rattle.std.proofs.Common.{◌∙◌, sym, ap, subst}
-use Rattle.db_core.specs.Sessions.{DbState}
-use Rattle.flat_db.specs.Sessions.{IsSession, session_of, flat_state}
-use Rattle.flat_db.specs.declared.session.Stage.{Stage}
-use Rattle.flat_db.proofs.SessionLemmas.{tied_same, nothing_owed, back_kept, back_state}
+use Rattle.std.proofs.Common.{refl}
+use Rattle.flat_db.proofs.SessionLemmas.{answered_tied, leaves_disk, makes_no_call}
 use Rattle.flat_db.proofs.session.FlatDbDb.abort.Goals as goal
 
-pub invariant_of-self-2 : goal.invariant_of-self-2
-invariant_of-self-2 g c =
-    let bytes = c.self.inside.bytes.items in
-    let kept = back_kept bytes bytes c.self.inside.seen c.self.inside.stage c.replace.result c.in-Open.transaction c.args.self.now c.self.view_is c.replace.ensures.value c.in-Open.is c.self.invariant c.truncate.new.self.items c.truncate.ensures.items in
-    subst (IsSession c.truncate.new.self.items c.in-Open.transaction.committed) (sym c.replace.ensures.after) (record { kept = kept.0; stands = tt })
+pub returns-clause-abort : goal.returns-clause-abort
+returns-clause-abort g c = makes_no_call _ _ c.args.self.now c.go_back.new.self (g.D.Disk.state c.args._disk.now) c.go_back.result c.go_back.ensures.answer c.go_back.ensures.no_fault (g.met.D.Disk.is_moment _) c.requires.tied
 
-pub returns-clause-answer : goal.returns-clause-answer
-returns-clause-answer g c =
-    let bytes = c.self.inside.bytes.items in
-    record {
-      ok = nothing_owed c.args.self.now (sym c.is_broken.ensures ∙ c.if-is_broken.false);
-      done = ap (λ (stage : Stage). flat_state (session_of c.truncate.new.self.items c.in-Open.transaction.committed stage)) c.replace.ensures.after
-          ∙ back_state bytes bytes c.self.inside.seen c.self.inside.stage c.replace.result c.in-Open.transaction c.args.self.now c.self.view_is c.replace.ensures.value c.in-Open.is c.self.invariant c.truncate.new.self.items c.truncate.ensures.items;
-      refused = tt;
-      after = tt;
-    }
+pub returns-clause-unharmed : goal.returns-clause-unharmed
+returns-clause-unharmed g c = leaves_disk c.args._disk.now c.go_back.result
 
 pub returns-clause-tied : goal.returns-clause-tied
-returns-clause-tied g c =
-    let done = (returns-clause-answer g c).done in
-    tied_same c.args.self.now _ _ (ap (λ (s : DbState). s.committed) done) (ap (λ (s : DbState). s.is_broken) done) c.requires.tied
+returns-clause-tied g c = answered_tied _ _ c.args.self.now c.go_back.new.self (g.D.Disk.state c.args._disk.now) c.go_back.result c.go_back.ensures.answer c.go_back.ensures.no_fault refl refl c.requires.tied

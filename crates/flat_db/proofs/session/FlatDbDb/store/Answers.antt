@@ -1,56 +1,12 @@
-use Rattle.std.proofs.Common.{◌≡◌, ◌≤◌, ◌∙◌, ℕ, List, None, false, length, sym, ap, subst, arith}
-use Rattle.base_bytes.specs.OrderedMap.{Map, put}
-use Rattle.db_core.specs.Answers.{store_refusal, pair_refusal}
-use Rattle.flat_db.specs.FlatText.{canonical_text}
-use Rattle.flat_db.specs.Kept.{map_among}
-use Rattle.db_core.specs.Sessions.{DbState}
-use Rattle.flat_db.specs.Sessions.{FlatSession, flat_kind, flat_state, session_of, IsSession}
-use Rattle.flat_db.specs.declared.session.Stage.{Stage}
-use Rattle.flat_db.proofs.SessionLemmas.{tied_same, session_changed, session_same, seen_same, seen_is, seen_stored, store_owed, within_limit}
+use Rattle.std.proofs.Common.{refl}
+use Rattle.flat_db.proofs.SessionLemmas.{answered_tied, leaves_disk, makes_no_call}
 use Rattle.flat_db.proofs.session.FlatDbDb.store.Goals as goal
 
--- nothing is owed where the pair's sizes are right and the text fits
-nothing_owed : (bytes slice key value : List ℕ) (seen : _) (stage : Stage) (s : FlatSession) (word size : ℕ) → session_of bytes seen stage ≡ s → (flat_state s).is_broken ≡ false → slice ≡ bytes → pair_refusal key value None ≡ None
-    → size ≡ length (canonical_text (put (map_among slice seen) key value)) → size ≤ 67108864 → store_refusal flat_kind (flat_state s) word key value ≡ None
-nothing_owed bytes slice key value seen stage s word size view sound same right counted fits =
-    store_owed (flat_state s) word key value sound right
-    ∙ within_limit size _ (counted ∙ ap (λ (l : List ℕ). length (canonical_text (put (map_among l seen) key value))) same ∙ ap (λ (m : Map). length (canonical_text (put m key value))) (seen_is bytes seen stage s view sound)) fits
+pub returns-clause-change : goal.returns-clause-change
+returns-clause-change g c = makes_no_call _ _ c.args.self.now c.put_pair.new.self (g.D.Disk.state c.args._disk.now) c.put_pair.result c.put_pair.ensures.answer c.put_pair.ensures.no_fault (g.met.D.Disk.is_moment _) c.requires.tied
 
-pub invariant_of-self : goal.invariant_of-self
-invariant_of-self g c =
-    session_same c.self.inside.bytes.items c.put.new.bytes.items c.put.ensures.grown.0 c.self.inside.seen c.put.new.self c.self.inside.stage c.put.ensures.grown.1 c.put.ensures.short c.put.ensures.kept c.in_default-put.ensures.same c.self.invariant
-
-pub returns-in_default-put-clause-answer : goal.returns-in_default-put-clause-answer
-returns-in_default-put-clause-answer g c = record {
-  ok = tt;
-  done = tt;
-  refused = nothing_owed c.self.inside.bytes.items c.deref.result.now c.args.key.now c.args.value.now c.self.inside.seen c.self.inside.stage c.args.self.now c.args._word c.size_with-size.result c.self.view_is (sym c.is_broken.ensures ∙ c.if-is_broken.false) c.deref.ensures.value
-      (sym c.pair_fault.ensures ∙ c.in_default.is) c.size_with-size.ensures c.if-size-gt-FLAT_LIMIT.false;
-  after = ap flat_state (seen_same c.self.inside.bytes.items c.put.new.bytes.items c.put.ensures.grown.0 c.self.inside.seen c.put.new.self c.self.inside.stage c.put.ensures.grown.1 c.in_default-put.ensures.same c.self.invariant ∙ c.self.view_is);
-}
-
-pub returns-in_default-put-clause-tied : goal.returns-in_default-put-clause-tied
-returns-in_default-put-clause-tied g c =
-    let same = seen_same c.self.inside.bytes.items c.put.new.bytes.items c.put.ensures.grown.0 c.self.inside.seen c.put.new.self c.self.inside.stage c.put.ensures.grown.1 c.in_default-put.ensures.same c.self.invariant ∙ c.self.view_is in
-    tied_same c.args.self.now _ _ (ap (λ (t : FlatSession). (flat_state t).committed) same) (ap (λ (t : FlatSession). (flat_state t).is_broken) same) c.requires.tied
-
-pub invariant_of-self-2 : goal.invariant_of-self-2
-invariant_of-self-2 g c =
-    subst (IsSession c.put.new.bytes.items c.put.new.self) (sym c.note_change.ensures)
-    (session_changed c.self.inside.bytes.items c.put.new.bytes.items c.put.ensures.grown.0 c.self.inside.seen c.put.new.self c.self.inside.stage c.put.ensures.grown.1 c.put.ensures.short c.put.ensures.kept (omega (arith, c.in-Ok.ensures.size)) c.self.invariant)
-
-pub returns-clause-answer : goal.returns-clause-answer
-returns-clause-answer g c = record {
-  ok = nothing_owed c.self.inside.bytes.items c.deref.result.now c.args.key.now c.args.value.now c.self.inside.seen c.self.inside.stage c.args.self.now c.args._word c.size_with-size.result c.self.view_is (sym c.is_broken.ensures ∙ c.if-is_broken.false) c.deref.ensures.value
-      (sym c.pair_fault.ensures ∙ c.in_default.is) c.size_with-size.ensures c.if-size-gt-FLAT_LIMIT.false;
-  done = ap (λ (t : Stage). flat_state (session_of c.put.new.bytes.items c.put.new.self t)) c.note_change.ensures
-      ∙ seen_stored c.self.inside.bytes.items c.put.new.bytes.items c.put.ensures.grown.0 c.self.inside.seen c.put.new.self c.self.inside.stage c.args.self.now c.args._word c.args.key.now c.args.value.now c.self.view_is
-      (c.requires.within (sym c.is_broken.ensures ∙ c.if-is_broken.false)) c.put.ensures.grown.1 c.self.invariant c.in-Ok.ensures.done;
-  refused = tt;
-  after = tt;
-}
+pub returns-clause-unharmed : goal.returns-clause-unharmed
+returns-clause-unharmed g c = leaves_disk c.args._disk.now c.put_pair.result
 
 pub returns-clause-tied : goal.returns-clause-tied
-returns-clause-tied g c =
-    let done = (returns-clause-answer g c).done in
-    tied_same c.args.self.now _ _ (ap (λ (s : DbState). s.committed) done) (ap (λ (s : DbState). s.is_broken) done) c.requires.tied
+returns-clause-tied g c = answered_tied _ _ c.args.self.now c.put_pair.new.self (g.D.Disk.state c.args._disk.now) c.put_pair.result c.put_pair.ensures.answer c.put_pair.ensures.no_fault refl refl c.requires.tied

@@ -1,9 +1,0 @@
-use Rattle.std.proofs.Common.{inr}
-use Rattle.disk_kinds.proofs.LeftImages.{changes_left}
-use Rattle.disk_kinds.proofs.memory.MemDisk.left.Goals as goal
-
-pub returns-in_err-replay-clause-possible : goal.returns-in_err-replay-clause-possible
-returns-in_err-replay-clause-possible c = inr (changes_left _ _ _)
-
-pub returns-clause-possible : goal.returns-clause-possible
-returns-clause-possible c = inr (changes_left _ _ _)

@@ -1,6 +1,0 @@
-use Rattle.std.proofs.Common.{sym, ◌∙◌, arith}
-use Rattle.base_devices.proofs.Lengths.{told_offset}
-use Rattle.disk_kinds.proofs.tests.landings.write.Goals as goal
-
-pub write_at-requires : goal.write_at-requires
-write_at-requires g c = told_offset _ c.in-Some.length _ (λ main is. rw c.in-Some.is at c.in_ok-length.ensures.length main (sym c.in_ok-length.ensures.main.reads ∙ is)) (omega (arith, c.if-at-length.true))

@@ -1,4 +1,0 @@
-// What no clause says of the devices.
-mod files;
-mod landings;
-mod memory;

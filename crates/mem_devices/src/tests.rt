@@ -1,0 +1,3 @@
+// What no clause says of the devices in memory.
+mod landings;
+mod memory;
