@@ -10,9 +10,10 @@ use Rattle.base_bytes.specs.declared.flaw.Flaw.{Flaw}
 use Rattle.base_devices.specs.CrashImages.{Image}
 use Rattle.base_notes.specs.declared.action.Action.{Action}
 use Rattle.base_notes.specs.declared.action.Action.TheVariants.{Show, Get, Set, Delete, Consistent, Repack, Batch, Exercise}
+use Rattle.base_notes.specs.declared.note.Device.{Device}
 use Rattle.base_notes.specs.declared.note.Device.TheVariants.{Host}
 use Rattle.base_notes.specs.declared.note.Note.{Note}
-use Rattle.base_notes.specs.declared.note.Note.TheVariants.{Done, Answer}
+use Rattle.base_notes.specs.declared.note.Note.TheVariants.{Done, Answer, Usage, DeviceFault, Memory}
 use Rattle.db_core.specs.Opening.{OpensTo}
 use Rattle.db_core.specs.Sessions.{DbKind, DbLaws, DbState, at_rest}
 use Rattle.db_core.specs.declared.fault.DbFault.{DbFault}
@@ -20,7 +21,7 @@ use Rattle.db_core.specs.declared.fault.DbFault.TheVariants.{Broken, KeyEmpty, K
 use Rattle.db_core.specs.declared.opening.OpenFault.{OpenFault}
 use Rattle.db_core.specs.declared.opening.OpenFault.TheVariants.{Absent as NoFile, TooBig, NoMemory as NoRoom, DiskFault as NoDisk, Damaged as Flawed}
 use Rattle.db_tool.specs.Tasks.{Given, Task, changing_by, lacks_key, task_if}
-use Rattle.db_tool.specs.ToolNotes.{change_note, opening_note}
+use Rattle.db_tool.specs.ToolNotes.{IsFault, IsCutOff, change_note, opening_note}
 use Rattle.cyr_top.specs.Asked.{Asked, task_for}
 use Rattle.cyr_top.specs.Stated.{StartsFrom, IsUnopened, StatedResult, acted, unopened, unopened_note, unopened_output, IsBuilt}
 
@@ -103,6 +104,7 @@ pub record IsPlain (task : Task) : Type 0 where
   pub none : task.acknowledged 0 ≡ 0
   pub may : task.may_stand 0 0
   pub built : IsBuilt task.note
+  pub no_usage : task.note ≡ Usage → ⊥
 
 refused_built : (fault : DbFault) → IsBuilt (change_note Host fault)
 refused_built Broken = tt
@@ -113,24 +115,37 @@ refused_built (Full n) = tt
 refused_built NoMemory = tt
 refused_built DiskFault = tt
 
+refused_no_usage : (fault : DbFault) → change_note Host fault ≡ Usage → ⊥
+refused_no_usage Broken is = cc is
+refused_no_usage KeyEmpty is = cc is
+refused_no_usage (KeyTooLong n) is = cc is
+refused_no_usage (ValueTooLong n) is = cc is
+refused_no_usage (Full n) is = cc is
+refused_no_usage NoMemory is = cc is
+refused_no_usage DiskFault is = cc is
+
 change_plain : (owed : Option DbFault) (kind : DbKind) (s : DbState) (change : Change) (words : ℕ) → IsPlain (changing_by owed kind s change words)
-change_plain None kind s change words = record { none = refl; may = (refl, refl); built = tt }
-change_plain (Some fault) kind s change words = record { none = refl; may = (refl, refl); built = refused_built fault }
+change_plain None kind s change words = record { none = refl; may = (refl, refl); built = tt; no_usage = λ is. cc is }
+change_plain (Some fault) kind s change words = record { none = refl; may = (refl, refl); built = refused_built fault; no_usage = refused_no_usage fault }
 
 answer_built : (b : Bool) → IsBuilt (if b then Done else Answer)
 answer_built true = tt
 answer_built false = tt
 
+answer_no_usage : (b : Bool) → (if b then Done else Answer) ≡ Usage → ⊥
+answer_no_usage true is = cc is
+answer_no_usage false is = cc is
+
 plain_by : (kind : DbKind) (s : DbState) (g : Given) (b : Bool) (a : Action) → IsPlain (task_if b kind s g a)
-plain_by kind s g true a = record { none = refl; may = (refl, refl); built = tt }
-plain_by kind s g false (Show prefix) = record { none = refl; may = (refl, refl); built = tt }
-plain_by kind s g false (Get key) = record { none = refl; may = (refl, refl); built = answer_built (is_some (value_at s.seen key)) }
+plain_by kind s g true a = record { none = refl; may = (refl, refl); built = tt; no_usage = λ is. cc is }
+plain_by kind s g false (Show prefix) = record { none = refl; may = (refl, refl); built = tt; no_usage = λ is. cc is }
+plain_by kind s g false (Get key) = record { none = refl; may = (refl, refl); built = answer_built (is_some (value_at s.seen key)); no_usage = answer_no_usage (is_some (value_at s.seen key)) }
 plain_by kind s g false (Set key value) = change_plain _ kind s (Put (next_u32 g.words).0 key value) 1
 plain_by kind s g false (Delete key) = change_plain _ kind s (Del key) 0
-plain_by kind s g false Consistent = record { none = refl; may = (refl, refl); built = tt }
-plain_by kind s g false Repack = record { none = refl; may = (refl, refl); built = tt }
-plain_by kind s g false Batch = record { none = refl; may = (refl, refl); built = tt }
-plain_by kind s g false (Exercise rounds) = record { none = refl; may = (refl, refl); built = tt }
+plain_by kind s g false Consistent = record { none = refl; may = (refl, refl); built = tt; no_usage = λ is. cc is }
+plain_by kind s g false Repack = record { none = refl; may = (refl, refl); built = tt; no_usage = λ is. cc is }
+plain_by kind s g false Batch = record { none = refl; may = (refl, refl); built = tt; no_usage = λ is. cc is }
+plain_by kind s g false (Exercise rounds) = record { none = refl; may = (refl, refl); built = tt; no_usage = λ is. cc is }
 
 pub task_plain : (asked : Asked) (s : DbState) → IsPlain (task_for asked s)
 task_plain asked s = plain_by asked.kind s asked.given (lacks_key asked.action) asked.action
@@ -142,3 +157,22 @@ opening_built NoRoom = tt
 opening_built NoDisk = tt
 opening_built (Flawed at check) = tt
 
+pub opening_no_usage : (fault : OpenFault) → opening_note Host fault ≡ Usage → ⊥
+opening_no_usage NoFile is = cc is
+opening_no_usage (TooBig size) is = cc is
+opening_no_usage NoRoom is = cc is
+opening_no_usage NoDisk is = cc is
+opening_no_usage (Flawed at check) is = cc is
+
+-- a fault of the host is built
+pub fault_built : (note : Note) → ((device : Device) → note ≡ DeviceFault device → device ≡ Host) → IsFault note → IsBuilt note
+fault_built (DeviceFault device) host failed = subst (λ (x : Device). IsBuilt (DeviceFault x)) (sym (host device refl)) tt
+fault_built note host failed = absurd failed
+
+pub cut_off_built : (note : Note) → ((device : Device) → note ≡ DeviceFault device → device ≡ Host) → IsCutOff note → IsBuilt note
+cut_off_built note host (inl failed) = fault_built note host failed
+cut_off_built note host (inr memory) = subst IsBuilt (sym memory) tt
+
+pub cut_off_no_usage : (note : Note) → IsCutOff note → note ≡ Usage → ⊥
+cut_off_no_usage note (inl failed) is = subst IsFault is failed
+cut_off_no_usage note (inr memory) is = cc (is, memory)

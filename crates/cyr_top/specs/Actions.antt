@@ -3,7 +3,7 @@ use Rattle.std.specs.Prelude.{◌≡◌, ◌⊎◌, ℕ, ◌-◌, ◌≤◌, Boo
 use Rattle.base_bytes.specs.Transactions.{after_first}
 use Rattle.base_devices.specs.CrashImages.{Image, DiskState, Reads, IsAbsent, WhereRead, LeavesOnly, LeavesSame, IsDurable}
 use Rattle.base_devices.specs.Frames.{StaysAs, KeepsFile}
-use Rattle.base_devices.specs.HostCalls.{HostMoment, told_with}
+use Rattle.base_devices.specs.HostCalls.{HostState, HostMoment, moment, told_with}
 use Rattle.base_notes.specs.declared.action.Action.TheVariants.{Consistent}
 use Rattle.base_notes.specs.declared.note.Device.{Device}
 use Rattle.base_notes.specs.declared.note.Device.TheVariants.{Host}
@@ -77,12 +77,11 @@ pub record DoesAction (asked : Asked) (old new : HostMoment) (note : Note) : Typ
   pub ends : (IsFault note → ⊥) → EndsAt asked old.disk new.disk note
   -- a file that does not open stays, and so does one that needs no repair where nothing is to be changed; a check does not even sync it
   pub unopened : (IsFault note → ⊥) → WhereRead old.disk (λ main. (fault : OpenFault) → IsUnopened asked main fault → KeepsFile old.disk new.disk)
-  pub kept : (asked.make ≡ true → IsAbsent old.disk → ⊥)
-      → ((bytes : List ℕ) → Reads old.disk bytes → asked.kind.is_settled bytes × ((s : DbState) → StartsFrom asked (Some bytes) s → (task_for asked s).only_prints ≡ true))
-      → KeepsFile old.disk new.disk
+  pub kept : WhereRead old.disk (λ main. (asked.make ≡ true → main ≡ None → ⊥) → ((bytes : List ℕ) → main ≡ Some bytes → asked.kind.is_settled bytes)
+      → ((s : DbState) → StartsFrom asked main s → (task_for asked s).only_prints ≡ true) → KeepsFile old.disk new.disk)
   pub checked : asked.action ≡ Consistent → (bytes : List ℕ) → Reads old.disk bytes → (new.disk.reads ≡ old.disk.reads) × LeavesSame old.disk new.disk
-  -- a database in place publishes nothing, unless it is made
-  pub in_place : asked.kind.works_in_place ≡ true → (asked.make ≡ true → IsAbsent old.disk → ⊥) → new.disk.publishes ≡ old.disk.publishes
+  -- over a file that is there a database in place publishes nothing
+  pub in_place : asked.kind.works_in_place ≡ true → (bytes : List ℕ) → Reads old.disk bytes → new.disk.publishes ≡ old.disk.publishes
   -- a file that is to be made is absent only before a byte was printed, and at the end only where the run was cut off
   pub absent : asked.make ≡ true → IsAbsent old.disk → LeavesOnly old.disk new.disk (λ c n. c ≡ None → n ≡ old.disk.mark)
   pub made : asked.make ≡ true → IsAbsent old.disk → IsCutOff note ⊎ (new.disk.leaves None → ⊥)
@@ -90,6 +89,10 @@ pub record DoesAction (asked : Asked) (old new : HostMoment) (note : Note) : Typ
   pub faults : Faults Host note old.disk.faults new.disk.faults
   pub built : IsBuilt note
   pub no_usage : note ≡ Usage → ⊥
+
+-- the end of a run, but for what standard error got
+abbrev pub but_warned : DiskState → HostState → HostState → HostMoment
+but_warned disk old new = moment disk (record new { warned = old.warned })
 
 -- The random words that were drawn: none where the file does not open, and else those of the task, or fewer where it was cut off.
 pub record DrawsFor (asked : Asked) (d : DiskState) (old new : Stream) (note : Note) : Type 0 where

@@ -1,16 +1,18 @@
 -- What a crash may leave of a database, in words of maps and transactions.
-use Rattle.std.specs.Prelude.{◌≡◌, ◌⊎◌, ℕ, ◌-◌, ◌≤◌, Bool, true, None, Some, length}
+use Rattle.std.specs.Prelude.{◌≡◌, ◌⊎◌, ℕ, ◌-◌, ◌≤◌, Bool, true, List, None, Some, length}
 use Rattle.base_bytes.specs.OrderedMap.{Map}
 use Rattle.base_bytes.specs.Transactions.{after_first}
 use Rattle.base_devices.specs.CrashImages.{Image, DiskState, Shows, IsAbsent, WhereRead, LeavesOnly}
+use Rattle.base_devices.specs.HostCalls.{HostMoment, told_with}
 use Rattle.base_notes.specs.declared.note.Note.{Note}
 use Rattle.base_notes.specs.declared.note.Note.TheVariants.{Memory}
 use Rattle.db_core.specs.Opening.{OpensTo}
 use Rattle.db_core.specs.Sessions.{DbKind, DbState}
 use Rattle.db_tool.specs.Tasks.{KeepsPrefix}
-use Rattle.db_tool.specs.ToolNotes.{IsFault}
+use Rattle.db_tool.specs.ToolNotes.{IsFault, IsCutOff}
 use Rattle.cyr_top.specs.Asked.{Asked, task_for}
-use Rattle.cyr_top.specs.Stated.{made_session}
+use Rattle.cyr_top.specs.Stated.{StatedResult, made_session}
+use Rattle.cyr_top.specs.Actions.{DoesAction}
 
 -- Each image that a crash now may leave opens to this map, and a later opening does not find it too big.
 pub record EachOpens (kind : DbKind) (s : DiskState) (m : Map) : Type 0 where
@@ -41,3 +43,11 @@ pub record LeavesAtEnd (asked : Asked) (s : DbState) (d e : DiskState) (note : N
   pub memory : note ≡ Memory → (task_for asked s).may_stand (e.mark - d.mark) count
   pub each : (c : Image) → e.leaves c → asked.kind.opens c (after_first count s.committed (task_for asked s).transactions)
       ⊎ ((asked.make ≡ true) × (c ≡ None) × (note ≡ Memory))
+
+-- All that is promised of an action: wherever it stops, at its end, and of its note and output.
+pub record KeepsPromises (asked : Asked) (old new : HostMoment) (note : Note) : Type 0 where
+  pub crash : (s : DbState) → StartsAt asked old.disk s → LeavesPrefixes asked s old.disk new.disk
+  pub end : (s : DbState) → Shows old.disk → (IsFault note → ⊥) → StartsAt asked old.disk s → LeavesAtEnd asked s old.disk new.disk note
+  pub exactly : WhereRead old.disk (λ main. (wanted : Note) (output : List ℕ) → StatedResult asked main wanted output
+      → IsCutOff note ⊎ ((note ≡ wanted) × (new.streams.told ≡ told_with old.streams.told output)))
+  pub does : DoesAction asked old new note

@@ -2,7 +2,9 @@
 use Rattle.std.specs.Prelude.{◌≡◌, ◌⊎◌, ℕ, Bool, true, List, [], ◌++◌, None, codes, decimal}
 use Rattle.base_bytes.specs.Flaws.{flaw_text}
 use Rattle.base_bytes.specs.declared.flaw.Flaw.{Flaw}
-use Rattle.base_devices.specs.CrashImages.{Image}
+use Rattle.base_devices.specs.CrashImages.{Image, DiskState}
+use Rattle.base_devices.specs.HostCalls.{HostState, told_with}
+use Rattle.base_notes.specs.Notes.{note_text}
 use Rattle.base_notes.specs.declared.action.Action.{Action}
 use Rattle.base_notes.specs.declared.action.Action.TheVariants.{Consistent}
 use Rattle.base_notes.specs.declared.note.Device.TheVariants.{Host}
@@ -13,7 +15,7 @@ use Rattle.db_core.specs.Opening.{OpensTo, IsOpenRefusal}
 use Rattle.db_core.specs.Sessions.{DbState, at_rest}
 use Rattle.db_core.specs.declared.opening.OpenFault.{OpenFault}
 use Rattle.db_core.specs.declared.opening.OpenFault.TheVariants.{Absent as NoFile, TooBig, NoMemory as NoRoom, DiskFault as NoDisk, Damaged as Flawed}
-use Rattle.db_tool.specs.ToolNotes.{opening_note}
+use Rattle.db_tool.specs.ToolNotes.{Faults, opening_note}
 use Rattle.cyr_top.specs.Asked.{Asked, task_for}
 
 -- ---- what the main file stands for
@@ -66,3 +68,19 @@ IsBuilt (DeviceFault Host) = Unit {0}
 IsBuilt Memory = Unit {0}
 IsBuilt (Damaged _ _) = Unit {0}
 IsBuilt note = ⊥
+
+-- ---- what every run keeps
+
+-- a built note, and the host failed exactly where it says so
+pub record Ran (note : Note) (old new : DiskState) : Type 0 where
+  pub built : IsBuilt note
+  pub faults : Faults Host note old.faults new.faults
+
+-- standard error gets the note's text, or the host ceases to show what it got
+abbrev pub Warns : Note → HostState → HostState → Type 0
+Warns note old new = (new.warned ≡ told_with old.warned (note_text note)) ⊎ (new.warned ≡ None)
+
+-- nothing was printed to standard output
+pub record SamePrints (old new : HostState) : Type 0 where
+  pub told : new.told ≡ old.told
+  pub tell_faults : new.tell_faults ≡ old.tell_faults

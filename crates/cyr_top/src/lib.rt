@@ -1,11 +1,15 @@
-//! The top call: what the words of a command line do.
+//! The top call: what the words of a command line do. Read in this order:
+//!
+//!   running    `run`: words, or a job that was read from them, over a host; here the backend is chosen
+//!   flat       an action over a flat file: made, checked, or opened and done
+//!   checking   the line that a check prints
+//! What a run owes stands in specs/: Asked (what the words ask), Stated (note and output), Actions (what is left),
+//! Crashes (the promises in words of maps and transactions).
 #![tactic(auto)]
 
-mod actions;
-mod jobs;
+mod checking;
+mod flat;
 mod running;
-mod words;
 
-pub use jobs::{Job, Paths, WordFault};
-pub use running::run;
-pub use words::{job, paths};
+pub use running::{run, run_job};
+pub use tool_words::{Job, Paths, WordFault, job, paths};

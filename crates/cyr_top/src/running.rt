@@ -1,108 +1,171 @@
 // The top call: words, the host's files and streams in, the status and its note out.
-ghost use Rattle.std.specs.Prelude.{◌≡◌, ◌⊎◌, ◌↔◌, ℕ, Bool, true, List, Some, None, map, string_bytes};
-ghost use Rattle.base_devices.specs.Causes.{Rose};
-ghost use Rattle.base_devices.specs.CrashImages.{Image, LeavesOnly};
+ghost use Rattle.std.specs.Prelude.{◌≡◌, ◌⊎◌, ℕ, true, false, List, [], None, map, string_bytes};
+ghost use Rattle.base_devices.specs.CrashImages.{Shows, WhereRead};
 ghost use Rattle.base_devices.specs.Frames.{SameDisk};
-ghost use Rattle.base_devices.specs.HostCalls.{told_with};
-ghost use Rattle.base_notes.specs.declared.action.Action.{Action as Act};
-ghost use Rattle.base_notes.specs.declared.action.Backend.TheVariants.{Flat};
+ghost use Rattle.base_devices.specs.HostCalls.{moment, told_with};
+ghost use Rattle.base_notes.specs.Notes.{status_of};
 ghost use Rattle.base_notes.specs.declared.note.Note.{Note};
-ghost use Rattle.base_notes.specs.Notes.{note_text, status_of};
-ghost use Rattle.base_bytes.specs.OrderedMap.{Map};
-ghost use Rattle.cyr_top.specs.JobOf.{job_of, Asks, CanDo, IsBuiltJob};
-ghost use Rattle.cyr_top.specs.declared.jobs.Job.TheVariants.{Dbtool};
-ghost use Rattle.cyr_top.specs.Opened.{EachOpens, StartsAt, KeepsPrefix, IsNotMade};
-ghost use Rattle.cyr_top.specs.Runs.{Runs};
-ghost use Rattle.cyr_top.specs.StatedResult.{StatedResult, IsCutOff, IsNoChange, IsBuilt, map_left};
-ghost use Rattle.db_tool.specs.Acting.{IsFault};
-ghost use Rattle.flat_db.specs.Opening.{flat_opens};
-ghost use Rattle.rand_core.specs.Stream.{next_u32};
+ghost use Rattle.cyr_top.specs.Actions.{DoesAction, DrawsFor, but_warned};
+ghost use Rattle.cyr_top.specs.Asked.{WhereAsked, OnDatabase, built_job_of, is_built, is_done};
+ghost use Rattle.cyr_top.specs.Crashes.{StartsAt, LeavesPrefixes, LeavesAtEnd, KeepsPromises};
+ghost use Rattle.cyr_top.specs.Stated.{StatedResult, Ran, Warns, SamePrints};
+ghost use Rattle.db_core.specs.Sessions.{DbState};
+ghost use Rattle.db_tool.specs.Tasks.{given};
+ghost use Rattle.db_tool.specs.ToolNotes.{IsFault, IsCutOff};
 
-use crate::actions::make_and_do;
-use crate::{Job, WordFault, job};
+use crate::flat::on_flat;
 use base_devices::Host;
-use base_notes::{Action, Note, Outcome};
+use base_notes::{Action, Backend, Note, Outcome};
 use rand_core::Rng;
 use std::alloc::Global;
+use tool_words::{Job, WordFault, job};
 
-// Whether a job makes an absent file, and its action.
-fn parts_of(job: &Job) -> (bool, &Action)
-    requires { IsBuiltJob job.now }
-    ensures parts { (make : Bool) (file : List ℕ) (action : Act) → job.now ≡ Dbtool make file Flat action → (result.0 ≡ make) × (result.1.now ≡ action) }
-    ensures can { CanDo result.1.now }
+// Whether an action is built.
+fn can_do(action: &Action) -> bool
+    ensures { result ≡ is_done action.now }
 {
-    let Job::Dbtool { make, action, .. } = job;
-    (*make, action)
+    match action {
+        Action::Show { .. }
+        | Action::Get { .. }
+        | Action::Set { .. }
+        | Action::Delete { .. }
+        | Action::Consistent => true,
+        Action::Repack | Action::Batch | Action::Exercise { .. } => false,
+    }
+}
+
+// Does a job, where it is built: here the backend is chosen.
+fn do_job<H: Host, R: Rng>(alloc: Global, job: &Job, host: &mut H, rng: &mut R) -> Note
+    ensures does { is_built job.now ≡ true → OnDatabase (given (R.stream rng.old) [])
+        (λ asked. DoesAction asked (moment (H.state host.old) (H.streams host.old))
+        (moment (H.state host.new) (H.streams host.new)) result) job.now }
+    ensures draws { is_built job.now ≡ true → OnDatabase (given (R.stream rng.old) [])
+        (λ asked. DrawsFor asked (H.state host.old) (R.stream rng.old) (R.stream rng.new) result)
+        job.now }
+    ensures ran { Ran result (H.state host.old) (H.state host.new) }
+    ensures usage { is_built job.now ≡ false → (result ≡ Note.Usage) × (host.new ≡ host.old)
+        × (R.stream rng.new ≡ R.stream rng.old) }
+    ensures warned { (H.streams host.new).warned ≡ (H.streams host.old).warned }
+    ensures rest { H.host_rest host.old host.new }
+{
+    match job {
+        Job::Dbtool {
+            make,
+            backend: Backend::Flat,
+            action,
+            ..
+        } if can_do(action) => on_flat(alloc, *make, action, host, rng),
+        _ => Note::Usage,
+    }
 }
 
 // Does what the words ask for.
-fn perform<H: Host, R: Rng>(alloc: Global, words: &[String], host: &mut H, rng: &mut R) -> Note
-    ensures usage { (result ≡ Note.Usage) ↔ (job_of (map string_bytes words.now) ≡ None) }
-    ensures untouched { result ≡ Note.Usage → host.new ≡ host.old }
-    ensures runs { (make : Bool) (action : Act) → Asks (map string_bytes words.now) make action → Runs make action (H.streams host.old) (H.streams host.new) (H.state host.old) (H.state host.new) result }
-    ensures built { IsBuilt result }
-    ensures rose { IsFault result → Rose (H.state host.old).faults (H.state host.new).faults }
-    ensures stood { (IsFault result → ⊥) → (H.state host.new).faults ≡ (H.state host.old).faults }
+fn do_words<H: Host, R: Rng>(alloc: Global, words: &[String], host: &mut H, rng: &mut R) -> Note
+    ensures does { WhereAsked (map string_bytes words.now) (given (R.stream rng.old) [])
+        (λ asked. DoesAction asked (moment (H.state host.old) (H.streams host.old))
+        (moment (H.state host.new) (H.streams host.new)) result) }
+    ensures draws { WhereAsked (map string_bytes words.now) (given (R.stream rng.old) [])
+        (λ asked. DrawsFor asked (H.state host.old) (R.stream rng.old) (R.stream rng.new) result) }
+    ensures ran { Ran result (H.state host.old) (H.state host.new) }
+    ensures usage { result ≡ Note.Usage → built_job_of (map string_bytes words.now) ≡ None }
+    ensures none { built_job_of (map string_bytes words.now) ≡ None
+        → ((result ≡ Note.Usage) ⊎ (result ≡ Note.Memory)) × (host.new ≡ host.old)
+        × (R.stream rng.new ≡ R.stream rng.old) }
     ensures warned { (H.streams host.new).warned ≡ (H.streams host.old).warned }
-    ensures drawn { (R.stream rng.new ≡ R.stream rng.old) ⊎ (R.stream rng.new ≡ (next_u32 (R.stream rng.old)).1) }
     ensures rest { H.host_rest host.old host.new }
 {
     match job(alloc, words) {
-        Ok(job) => {
-            let (make, action) = parts_of(&job);
-            make_and_do(alloc, make, action, host, rng)
-        }
+        Ok(job) => do_job(alloc, &job, host, rng),
         Err(WordFault::Usage) => Note::Usage,
         Err(WordFault::NoMemory) => Note::Memory,
     }
 }
 
-/// Does all that the program does: what the words ask for, over the host's files and streams.
-///
-/// `words` are the command line without the program's own name. The note's text goes to standard error. At most one
-/// random word is drawn. `docs/guarantees.md` says what each clause means for a file.
-pub fn run<H: Host, R: Rng>(alloc: Global, words: &[String], host: &mut H, rng: &mut R) -> Outcome
-    ensures status { result.status ≡ status_of result.note }
-
-    // The words give no job: exactly then the run answers so, and it changes nothing but standard error.
-    ensures usage { (result.note ≡ Note.Usage) ↔ (job_of (map string_bytes words.now) ≡ None) }
-    ensures untouched { result.note ≡ Note.Usage → SameDisk (H.state host.old) (H.state host.new) × ((H.streams host.new).told ≡ (H.streams host.old).told) }
-
-    // What is owed of an action: the stated note and output, and what is left of the file at each moment and at the end.
-    ensures runs { (make : Bool) (action : Act) → Asks (map string_bytes words.now) make action
-        → Runs make action (H.streams host.old) (H.streams host.new) (H.state host.old) (H.state host.new) result.note }
-
-    // Whatever note and output are stated for the file, the run ends with them, unless the host failed or memory ran out.
-    ensures exactly { (make : Bool) (action : Act) → Asks (map string_bytes words.now) make action → (main : Image) → (H.state host.old).reads ≡ Some main
-        → (wanted : Note) (output : List ℕ) → StatedResult make action main wanted output
-        → IsCutOff result.note ⊎ ((result.note ≡ wanted) × ((H.streams host.new).told ≡ told_with (H.streams host.old).told output)) }
-
-    // In words of maps and transactions: where the run starts from one map, each image that is left opens to the map after
-    // a prefix of the action's transactions that holds every acknowledged one, or is the absent file that is to be made, before a
-    // byte was told. At the end it opens to the map after all of them where the note is `Done`, and else to the map at the start.
-    ensures crash { (make : Bool) (action : Act) → Asks (map string_bytes words.now) make action → (m : Map) → StartsAt make (H.state host.old) m
-        → LeavesOnly (H.state host.old) (H.state host.new) (λ c n. KeepsPrefix action m (H.state host.old).mark c n ⊎ IsNotMade make (H.state host.old).mark c n) }
-    ensures committed { (make : Bool) (action : Act) → Asks (map string_bytes words.now) make action → (m : Map) → StartsAt make (H.state host.old) m
-        → result.note ≡ Note.Done → EachOpens (H.state host.new) (map_left m action) }
-    ensures uncommitted { (make : Bool) (action : Act) → Asks (map string_bytes words.now) make action → (m : Map) → StartsAt make (H.state host.old) m
-        → IsNoChange result.note → (c : Image) → (H.state host.new).leaves c → flat_opens c m ⊎ ((make ≡ true) × (c ≡ None) × (result.note ≡ Note.Memory)) }
-
-    // There is no other note than those of the actions that are built, and no other device than the host.
-    ensures built { IsBuilt result.note }
-
-    // A device fault is answered exactly where the count rose, or stands at its last value.
-    ensures cause { IsFault result.note → Rose (H.state host.old).faults (H.state host.new).faults }
-    ensures no_fault { (IsFault result.note → ⊥) → (H.state host.new).faults ≡ (H.state host.old).faults }
-
-    // Standard error gets the note's text.
-    ensures warned { ((H.streams host.new).warned ≡ told_with (H.streams host.old).warned (note_text result.note)) ⊎ ((H.streams host.new).warned ≡ None) }
-    ensures drawn { (R.stream rng.new ≡ R.stream rng.old) ⊎ (R.stream rng.new ≡ (next_u32 (R.stream rng.old)).1) }
+// Prints the note's text to standard error, and ends with the note and its status.
+fn end_run<H: Host>(host: &mut H, note: Note) -> Outcome
+    ensures note { result.note ≡ note }
+    ensures status { result.status ≡ status_of note }
+    ensures disk { SameDisk (H.state host.old) (H.state host.new) }
+    ensures told { (H.streams host.new).told ≡ (H.streams host.old).told }
+    ensures tell_faults { (H.streams host.new).tell_faults ≡ (H.streams host.old).tell_faults }
+    ensures warned { Warns note (H.streams host.old) (H.streams host.new) }
     ensures rest { H.host_rest host.old host.new }
 {
-    let note = perform(alloc, words, host, rng);
     host.warn(note.text().as_str().as_bytes());
     Outcome {
         status: note.status(),
         note,
     }
+}
+
+/// Does a job that was read from the words before, as `run` does, and ends with its note and status.
+pub fn run_job<H: Host, R: Rng>(alloc: Global, job: &Job, host: &mut H, rng: &mut R) -> Outcome
+    ensures promises { is_built job.now ≡ true → OnDatabase (given (R.stream rng.old) [])
+        (λ asked. KeepsPromises asked (moment (H.state host.old) (H.streams host.old))
+        (but_warned (H.state host.new) (H.streams host.old) (H.streams host.new)) result.note)
+        job.now }
+    ensures draws { is_built job.now ≡ true → OnDatabase (given (R.stream rng.old) [])
+        (λ asked. DrawsFor asked (H.state host.old) (R.stream rng.old) (R.stream rng.new) result.note)
+        job.now }
+    ensures usage { is_built job.now ≡ false → (result.note ≡ Note.Usage)
+        × SameDisk (H.state host.old) (H.state host.new)
+        × SamePrints (H.streams host.old) (H.streams host.new) }
+
+    ensures status { result.status ≡ status_of result.note }
+    ensures ran { Ran result.note (H.state host.old) (H.state host.new) }
+    ensures warned { Warns result.note (H.streams host.old) (H.streams host.new) }
+    ensures rest { H.host_rest host.old host.new }
+{
+    let note = do_job(alloc, job, host, rng);
+    end_run(host, note)
+}
+
+/// Does all that the program does: what the words ask for, over the host's files and streams.
+///
+/// `words` are the command line without the program's own name. The note's text goes to standard error. Words that
+/// stand for no job that is built end with `usage`. `docs/guarantees.md` says what each clause means for a file.
+pub fn run<H: Host, R: Rng>(alloc: Global, words: &[String], host: &mut H, rng: &mut R) -> Outcome
+    // Where the run starts from one map, each image that is left, wherever the run stops, opens to the map after a
+    // prefix of its committed transactions that holds every acknowledged one, none in part; and at an end without a
+    // fault of a device to the map after all of them, unless memory ran out.
+    ensures crash { WhereAsked (map string_bytes words.now) (given (R.stream rng.old) [])
+        (λ asked. (s : DbState) → StartsAt asked (H.state host.old) s
+        → LeavesPrefixes asked s (H.state host.old) (H.state host.new)) }
+    ensures end { WhereAsked (map string_bytes words.now) (given (R.stream rng.old) [])
+        (λ asked. (s : DbState) → Shows (H.state host.old) → ¬ IsFault result.note
+        → StartsAt asked (H.state host.old) s
+        → LeavesAtEnd asked s (H.state host.old) (H.state host.new) result.note) }
+
+    // Whatever note and output are stated for the file, the run ends with them, unless it was cut off.
+    ensures exactly { WhereAsked (map string_bytes words.now) (given (R.stream rng.old) [])
+        (λ asked. WhereRead (H.state host.old) (λ main. (wanted : Note) (output : List ℕ)
+        → StatedResult asked main wanted output → IsCutOff result.note ⊎ ((result.note ≡ wanted)
+        × ((H.streams host.new).told ≡ told_with (H.streams host.old).told output)))) }
+
+    // What else is owed of an action: what is left of a file at each moment and at each end, also where it does not
+    // open; which calls are not made; and the random words that are drawn.
+    ensures does { WhereAsked (map string_bytes words.now) (given (R.stream rng.old) [])
+        (λ asked. DoesAction asked (moment (H.state host.old) (H.streams host.old))
+        (but_warned (H.state host.new) (H.streams host.old) (H.streams host.new)) result.note) }
+    ensures draws { WhereAsked (map string_bytes words.now) (given (R.stream rng.old) [])
+        (λ asked. DrawsFor asked (H.state host.old) (R.stream rng.old) (R.stream rng.new)
+        result.note) }
+
+    // The words give no job that is built: then the run answers so, and changes nothing but standard error.
+    ensures usage { result.note ≡ Note.Usage → built_job_of (map string_bytes words.now) ≡ None }
+    ensures none { built_job_of (map string_bytes words.now) ≡ None
+        → ((result.note ≡ Note.Usage) ⊎ (result.note ≡ Note.Memory))
+        × SameDisk (H.state host.old) (H.state host.new)
+        × SamePrints (H.streams host.old) (H.streams host.new)
+        × (R.stream rng.new ≡ R.stream rng.old) }
+
+    // A device fault is answered exactly where the host's count rose, by one; there are no other notes than these;
+    // the status is that of the note, and standard error gets its text.
+    ensures status { result.status ≡ status_of result.note }
+    ensures ran { Ran result.note (H.state host.old) (H.state host.new) }
+    ensures warned { Warns result.note (H.streams host.old) (H.streams host.new) }
+    ensures rest { H.host_rest host.old host.new }
+{
+    let note = do_words(alloc, words, host, rng);
+    end_run(host, note)
 }

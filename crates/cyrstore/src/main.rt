@@ -2,21 +2,22 @@
 //! the words, the real devices and the process.
 #![tactic(auto)]
 
-ghost use Rattle.std.specs.Prelude.{◌≡◌, ◌⊎◌, ℕ, Bool, List, [], Some, None, IfOk, map, string_bytes};
+ghost use Rattle.std.specs.Prelude.{◌≡◌, true, [], None, IfOk, map, string_bytes};
 ghost use Rattle.std.specs.Process.{exit_status};
-ghost use Rattle.base_devices.specs.CrashImages.{Image};
-ghost use Rattle.base_notes.specs.declared.action.Action.{Action};
+ghost use Rattle.base_devices.specs.HostCalls.{moment};
 ghost use Rattle.base_notes.specs.declared.note.Note.{Note};
 ghost use Rattle.base_notes.specs.Notes.{status_of};
-ghost use Rattle.base_notes.specs.declared.status.TheConstants.{STATUS_DEVICE_FAULT, STATUS_DONE, STATUS_NO_MEMORY, STATUS_USAGE};
-ghost use Rattle.cyr_top.specs.JobOf.{job_of, Asks, main_path};
-ghost use Rattle.cyr_top.specs.StatedResult.{StatedResult, IsLeft};
-ghost use Rattle.cyr_top.specs.declared.jobs.Job.{Job};
+ghost use Rattle.cyr_top.specs.Actions.{but_warned};
+ghost use Rattle.cyr_top.specs.Asked.{OnDatabase, built_job_of, is_built};
+ghost use Rattle.cyr_top.specs.Crashes.{KeepsPromises};
+ghost use Rattle.cyr_top.specs.Stated.{Ran, Warns};
+ghost use Rattle.db_tool.specs.Tasks.{given};
+ghost use Rattle.tool_words.specs.PathsOf.{main_path_of};
 
 use base_bytes::{NoMemory, Text};
 use base_devices::Host;
 use base_notes::STATUS_NO_MEMORY;
-use cyr_top::{WordFault, job, paths, run};
+use cyr_top::{Job, WordFault, job, paths, run, run_job};
 use disk_kinds::FileHost;
 use rand_core::Rng;
 use rand_pcg::Pcg32;
@@ -42,18 +43,6 @@ fn words_of(rt: &(impl Env + AllocGlobal)) -> io::Result<Vec<String>> {
     Ok(words)
 }
 
-// The path of the job's main file, or an empty one where the words give no job.
-fn main_path(alloc: Global, words: &[String]) -> Result<Text, NoMemory>
-    ensures job { IfOk result (λ path. (job : Job) → job_of (map string_bytes words.now) ≡ Some job → path ≡ main_path job) }
-    ensures usage { IfOk result (λ path. job_of (map string_bytes words.now) ≡ None → path ≡ []) }
-{
-    match job(alloc, words) {
-        Ok(job) => Ok(paths(alloc, &job)?.main),
-        Err(WordFault::Usage) => Text::of(alloc, ""),
-        Err(WordFault::NoMemory) => Err(NoMemory),
-    }
-}
-
 // Says why there was no run, and ends with this status.
 fn refused(rt: &impl Eprint, why: &str, status: u8) -> ExitCode
     ensures { exit_status result ≡ status }
@@ -70,16 +59,40 @@ fn nanoseconds(clock: &impl Clock) -> u64 {
     }
 }
 
-// Runs, and ends with the run's status.
-fn ended<H: Host, R: Rng>(alloc: Global, words: &[String], host: &mut H, rng: &mut R) -> ExitCode
-    ensures usage { job_of (map string_bytes words.now) ≡ None → exit_status result ≡ STATUS_USAGE }
-    ensures stated { (make : Bool) (action : Action) → Asks (map string_bytes words.now) make action → (main : Image) → (H.state host.old).reads ≡ Some main
-        → (wanted : Note) (output : List ℕ) → StatedResult make action main wanted output
-        → (exit_status result ≡ status_of wanted) ⊎ ((exit_status result ≡ STATUS_DEVICE_FAULT) ⊎ (exit_status result ≡ STATUS_NO_MEMORY)) }
-    ensures done { exit_status result ≡ STATUS_DONE → (make : Bool) (action : Action) → Asks (map string_bytes words.now) make action → (c : Image) → (H.state host.new).leaves c → IsLeft make action (H.state host.old) c }
+// Does the job, and ends with the status of its note.
+fn end_job<H: Host, R: Rng>(alloc: Global, job: &Job, host: &mut H, rng: &mut R) -> ExitCode
+    ensures note { (note : Note) × (exit_status result ≡ status_of note)
+        × Warns note (H.streams host.old) (H.streams host.new)
+        × Ran note (H.state host.old) (H.state host.new)
+        × (is_built job.now ≡ true → OnDatabase (given (R.stream rng.old) [])
+        (λ asked. KeepsPromises asked (moment (H.state host.old) (H.streams host.old))
+        (but_warned (H.state host.new) (H.streams host.old) (H.streams host.new)) note) job.now) }
+    ensures rest { H.host_rest host.old host.new }
+{
+    ExitCode::from(run_job(alloc, job, host, rng).status)
+}
+
+// Answers words that stand for no job, and ends with the status of the note.
+fn end_words<H: Host, R: Rng>(
+    alloc: Global,
+    words: &[String],
+    host: &mut H,
+    rng: &mut R,
+) -> ExitCode
+    ensures note { (note : Note) × (exit_status result ≡ status_of note)
+        × Warns note (H.streams host.old) (H.streams host.new)
+        × Ran note (H.state host.old) (H.state host.new)
+        × (note ≡ Note.Usage → built_job_of (map string_bytes words.now) ≡ None) }
     ensures rest { H.host_rest host.old host.new }
 {
     ExitCode::from(run(alloc, words, host, rng).status)
+}
+
+// The path of the job's main file.
+fn main_path(alloc: Global, job: &Job) -> Result<Text, NoMemory>
+    ensures { IfOk result (λ path. path ≡ main_path_of job.now) }
+{
+    Ok(paths(alloc, job)?.main)
 }
 
 fn main(rt: HostRuntime) -> ExitCode {
@@ -90,10 +103,21 @@ fn main(rt: HostRuntime) -> ExitCode {
         }
         Err(_) => return refused(&rt, "no words", STATUS_NO_WORDS),
     };
-    let Ok(path) = main_path(rt.alloc(), &words) else {
-        return refused(&rt, "no memory", STATUS_NO_MEMORY);
-    };
+    let alloc = rt.alloc();
     let mut rng = Pcg32::new(nanoseconds(&rt), 0);
-    let mut host = FileHost::new(rt, path);
-    ended(rt.alloc(), &words, &mut host, &mut rng)
+    match job(alloc, &words) {
+        Ok(job) => {
+            let Ok(path) = main_path(alloc, &job) else {
+                return refused(&rt, "no memory", STATUS_NO_MEMORY);
+            };
+            end_job(alloc, &job, &mut FileHost::new(rt, path), &mut rng)
+        }
+        Err(WordFault::NoMemory) => refused(&rt, "no memory", STATUS_NO_MEMORY),
+        Err(WordFault::Usage) => {
+            let Ok(path) = Text::of(alloc, "") else {
+                return refused(&rt, "no memory", STATUS_NO_MEMORY);
+            };
+            end_words(alloc, &words, &mut FileHost::new(rt, path), &mut rng)
+        }
+    }
 }
