@@ -1,17 +1,15 @@
 -- An action over the main file as it is: the file is not opened, or it is and the task is done.
-use Rattle.std.proofs.Common.{◌≡◌, ◌⊎◌, inl, inr, ⊎_elim, ℕ, ◌-◌, ◌≤◌, Bool, true, false, List, [], Option, Some, None, Result, Ok, Err, length, refl, sym, ◌∙◌, ap, subst, arith}
-use Rattle.std.specs.Prelude.{IsSome, IfErr}
+use Rattle.std.proofs.Common.{◌≡◌, ◌⊎◌, inl, inr, ⊎_elim, ℕ, ◌-◌, ◌≤◌, false, List, [], Option, Some, None, Ok, Err, refl, sym, ◌∙◌, ap, subst, arith}
+use Rattle.std.specs.Prelude.{IsSome}
 use Rattle.base_bytes.specs.OrderedMap.{Map}
-use Rattle.base_bytes.specs.Transactions.{after_first}
-use Rattle.base_devices.specs.Causes.{Rose, FaultHasCause}
-use Rattle.base_devices.specs.CrashImages.{Image, DiskState, GoesOn, IsMoment, LeavesOnly, LeavesSame, WhereRead, IsAbsent, Reads}
-use Rattle.base_devices.specs.Frames.{KeepsFile, MayLeaveLess, StaysAs, OnlyPrints}
-use Rattle.base_devices.specs.HostCalls.{HostState, HostMoment, moment, told_with}
-use Rattle.base_devices.proofs.FrameLemmas.{file_of_less, file_of_prints, file_of_stays, file_then}
+use Rattle.base_devices.specs.Causes.{FaultHasCause}
+use Rattle.base_devices.specs.CrashImages.{Image, DiskState, GoesOn, IsMoment, WhereRead}
+use Rattle.base_devices.specs.Frames.{MayLeaveLess}
+use Rattle.base_devices.specs.HostCalls.{HostState, moment, told_with}
+use Rattle.base_devices.proofs.FrameLemmas.{file_of_less, file_of_prints, file_then}
 use Rattle.base_devices.proofs.Moments.{each_then}
 use Rattle.base_notes.specs.declared.action.Action.{Action}
 use Rattle.base_notes.specs.declared.action.Action.TheVariants.{Consistent}
-use Rattle.base_notes.specs.declared.note.Device.{Device}
 use Rattle.base_notes.specs.declared.note.Device.TheVariants.{Host}
 use Rattle.base_notes.specs.declared.note.Note.{Note}
 use Rattle.base_notes.specs.declared.note.Note.TheVariants.{Usage, DeviceFault, Memory}
@@ -19,17 +17,17 @@ use Rattle.db_core.specs.Opening.{OpensTo, OpensDisk, SameMap, IsOpenRefusal, Is
 use Rattle.db_core.specs.Sessions.{DbKind, DbLaws, DbState, at_rest}
 use Rattle.db_core.specs.declared.opening.OpenFault.{OpenFault}
 use Rattle.db_core.specs.declared.opening.OpenFault.TheVariants.{Absent as NoFile, TooBig, NoMemory as NoRoom, DiskFault as NoDisk, Damaged as Flawed}
-use Rattle.db_tool.specs.Doing.{ToolMoment, during, DoesTask, StandsAfter, DrawsWords}
+use Rattle.db_tool.specs.Doing.{during, DoesTask, StandsAfter, DrawsWords}
 use Rattle.rand_core.specs.Stream.{Stream}
 use Rattle.base_devices.specs.Time.{goes_then}
 use Rattle.db_tool.specs.Printing.{Printed, PrintsSome}
-use Rattle.db_tool.specs.Tasks.{Given, KeepsPrefix, KeepsUpTo}
+use Rattle.db_tool.specs.Tasks.{Given, KeepsPrefix}
 use Rattle.db_tool.specs.ToolNotes.{IsFault, IsCutOff, Faults, opening_note}
 use Rattle.db_tool.proofs.PrintLemmas.{printed_still, some_none}
-use Rattle.cyr_top.specs.Actions.{IsBefore, KeepsRead, IsStart, StandsAt, EndsAt, opened, not_opened, checked, IsStatedBy, DoesAction, DrawsFor}
+use Rattle.cyr_top.specs.Actions.{IsBefore, KeepsRead, StandsAt, opened, not_opened, IsStatedBy, DoesAction, DrawsFor}
 use Rattle.cyr_top.specs.Asked.{Asked, asking, task_for}
-use Rattle.cyr_top.specs.Stated.{StartsFrom, IsUnopened, StatedResult, acted, unopened, unopened_note, unopened_output, IsBuilt}
-use Rattle.cyr_top.proofs.StatedLemmas.{same_bytes, none_opens, opens_fails, starts_fails, opens_once, starts_once, stated_once, task_plain, opening_built, opening_no_usage, cut_off_built, cut_off_no_usage}
+use Rattle.cyr_top.specs.Stated.{StartsFrom, IsUnopened, acted, unopened, unopened_note, unopened_output, IsBuilt}
+use Rattle.cyr_top.proofs.StatedLemmas.{opens_fails, starts_fails, starts_once, stated_once, task_plain, opening_built, opening_no_usage, cut_off_built, cut_off_no_usage}
 
 pub some_of : {A : Type 0} (o : Option A) → IsSome o → (x : A) × (o ≡ Some x)
 some_of None some = absurd (cc some)
@@ -137,6 +135,23 @@ module _ (kind : DbKind) (laws : DbLaws kind) (action : Action) (g : Given) wher
       built = opening_built fault;
       no_usage = opening_no_usage fault;
     }
+
+  -- a file that is refused is not opened, unless the disk failed or memory ran out
+  why_not : (d : DiskState) (f : OpenFault) (main : Image) (s : DbState) → IsOpenRefusal kind main f → StartsFrom asked main s → IsCutOff (opening_note Host f)
+  why_not d NoFile main s is starts = absurd (starts_fails asked laws main s NoFile starts (is, λ make. cc make))
+  why_not d (TooBig size) main s is starts = absurd (starts_fails asked laws main s (TooBig size) starts is)
+  why_not d (Flawed at check) main s is starts = absurd (starts_fails asked laws main s (Flawed at check) starts is)
+  why_not d NoRoom main s is starts = inr refl
+  why_not d NoDisk main s is starts = inl tt
+
+  -- and draws no words
+  pub unopened_draws : (d : DiskState) (words : Stream) (fault : OpenFault) → WhereRead d (λ main. IsOpenRefusal kind main fault) → DrawsFor asked d words words (opening_note Host fault)
+  unopened_draws d words fault refused = record {
+    count = 0;
+    drawn = refl;
+    opened = λ main is s starts. (omega arith, inl (why_not d fault main s (refused main is) starts));
+    unopened = λ main is f un. refl;
+  }
 
   -- ---- the file is opened, and the task done
 

@@ -1,31 +1,37 @@
 -- A check of the main file as it is: it only reads, and prints a line or refuses the file.
-use Rattle.std.proofs.Common.{◌≡◌, ◌⊎◌, inl, inr, ⊎_elim, ℕ, ◌-◌, ◌≤◌, Bool, true, false, List, [], Option, Some, None, Result, Ok, Err, refl, sym, ◌∙◌, ap, subst, arith}
-use Rattle.std.specs.Prelude.{IsSome}
-use Rattle.base_devices.specs.Causes.{FaultHasCause}
-use Rattle.base_devices.specs.CrashImages.{Image, DiskState, GoesOn, IsMoment, LeavesOnly, WhereRead}
-use Rattle.base_devices.specs.Frames.{KeepsFile, StaysAs}
-use Rattle.base_devices.specs.HostCalls.{HostState, HostMoment, moment, told_with}
+use Rattle.std.proofs.Common.{◌≡◌, ◌++◌, ◌⊎◌, inl, inr, ⊎_elim, ℕ, ◌-◌, ◌≤◌, false, List, [], Ok, Err, take, refl, sym, ◌∙◌, ap, subst, arith}
+use Rattle.std.specs.Prelude.{IsSome, codes}
+use Rattle.base_bytes.specs.declared.flaw.Flaw.{Flaw}
+use Rattle.base_devices.specs.Causes.{HasCause, FaultHasCause}
+use Rattle.base_devices.specs.CrashImages.{Image, DiskState, GoesOn, WhereRead}
+use Rattle.base_devices.specs.Frames.{KeepsFile, KeepsFiles, StaysAs}
+use Rattle.base_devices.specs.HostCalls.{HostState, moment, MovesMark, told_with}
 use Rattle.base_devices.proofs.FrameLemmas.{file_of_stays, file_of_prints, file_then, leaves_twice}
-use Rattle.base_devices.proofs.Moments.{each_then}
 use Rattle.base_notes.specs.declared.action.Action.TheVariants.{Consistent}
 use Rattle.base_notes.specs.declared.note.Device.TheVariants.{Host}
 use Rattle.base_notes.specs.declared.note.Note.{Note}
-use Rattle.base_notes.specs.declared.note.Note.TheVariants.{Usage, Memory}
+use Rattle.base_notes.specs.declared.note.Note.TheVariants.{Done, Usage, DeviceFault, Memory}
 use Rattle.db_core.specs.Opening.{IsOpenRefusal, IsDeviceFault, IsDamage}
-use Rattle.db_core.specs.Sessions.{DbKind, DbLaws, DbState}
+use Rattle.db_core.specs.Sessions.{DbKind, DbLaws, at_rest}
+use Rattle.base_bytes.specs.OrderedMap.{Map}
 use Rattle.db_core.specs.declared.opening.OpenFault.{OpenFault}
 use Rattle.db_core.specs.declared.opening.OpenFault.TheVariants.{Absent as NoFile, TooBig, NoMemory as NoRoom, DiskFault as NoDisk, Damaged as Flawed}
 use Rattle.db_tool.specs.Doing.{Looks}
 use Rattle.db_tool.specs.Printing.{Printed, PrintsSome}
-use Rattle.db_tool.specs.Tasks.{Given, words_after}
+use Rattle.db_tool.specs.Tasks.{Given}
 use Rattle.db_tool.specs.ToolNotes.{IsFault, IsCutOff, Faults, opening_note}
-use Rattle.db_tool.proofs.PrintLemmas.{printed_still, some_none}
+use Rattle.db_tool.proofs.PrintLemmas.{printed_still, some_none, prints_done, prints_failed}
+use Rattle.std.proofs.lemmas.List.{append-nil}
 use Rattle.rand_core.specs.Stream.{Stream}
-use Rattle.cyr_top.specs.Actions.{IsBefore, IsStart, EndsAt, checked, IsStatedBy, DoesAction, DrawsFor}
-use Rattle.cyr_top.specs.Asked.{Asked, asking, task_for}
-use Rattle.cyr_top.specs.Stated.{StartsFrom, IsUnopened, StatedResult, unopened, IsBuilt}
-use Rattle.cyr_top.proofs.StatedLemmas.{starts_fails, stated_once, opening_built, opening_no_usage, cut_off_built, cut_off_no_usage}
+use Rattle.cyr_top.specs.Actions.{IsBefore, checked, IsStatedBy, DoesAction, DrawsFor}
+use Rattle.cyr_top.specs.Asked.{Asked, asking}
+use Rattle.cyr_top.specs.Stated.{StatedResult, acted, unopened, IsBuilt}
+use Rattle.cyr_top.proofs.StatedLemmas.{stated_once, opening_built, opening_no_usage, cut_off_built, cut_off_no_usage}
 use Rattle.cyr_top.proofs.ActLemmas.{device_of, note_of}
+
+-- a flaw is no fault of the device
+pub stood_for : {T : Type 0} {before now : ℕ} (f : OpenFault) (at : ℕ) (flaw : Flaw) → f ≡ Flawed at flaw → FaultHasCause {T = T} IsDeviceFault before now (Err f) → now ≡ before
+stood_for f at flaw is cause = ⊎_elim (λ failed. absurd (subst IsDeviceFault is failed)) (λ same. same) cause.stood
 
 module _ (kind : DbKind) (laws : DbLaws kind) (g : Given) where
   abbrev asked : Asked
@@ -124,4 +130,40 @@ module _ (kind : DbKind) (laws : DbLaws kind) (g : Given) where
       faults = record { rose = λ is. cause.rose (device_of fault is); stood = λ not. ⊎_elim (λ failed. absurd (not (note_of fault failed))) (λ same. same) cause.stood };
       built = opening_built fault;
       no_usage = opening_no_usage fault;
+    }
+
+  -- a file that opens is consistent
+  pub counted_opens : (main : Image) (m : Map) → kind.opens main m → StatedResult asked main Done (codes "consistent\n")
+  counted_opens main m opens =
+      let there = laws.within main m opens in
+      acted (at_rest m (kind.load_of there.0)) (inl (record { bytes = there.0; there = there.1; map = m; opens = opens; rests = refl })) refl refl
+
+-- ---- a line is printed at once, or a prefix of it before the host failed
+
+pub looks_printed : {E : Type 0} (note : Note) (slice line : List ℕ) (d e : DiskState) (o p : HostState) → slice ≡ line → (IsFault note → ⊥) → (note ≡ Memory → ⊥) → p.told ≡ told_with o.told slice → p.warned ≡ o.warned
+    → MovesMark {T = Unit {0}} {E = E} o.told d e slice (Ok tt) → KeepsFiles d e → HasCause {T = Unit {0}} {E = E} d.faults e.faults (Ok tt) → Looks note line (moment d o) (moment e p) note
+looks_printed {E = E} note slice line d e o p same no_fault no_memory told warned moves keeps cause =
+    let printed = prints_done {E = E} line slice d e o p tt same told warned moves keeps cause in
+    let all : printed.some.printed ≡ line = sym (append-nil printed.some.printed) ∙ ap (λ (l : List ℕ). printed.some.printed ++ l) printed.rest ∙ printed.some.whole ∙ append-nil line in
+    let grew : Printed line (moment d o) (moment e p) = subst (λ (l : List ℕ). Printed l (moment d o) (moment e p)) all printed.some.grew in
+    record {
+      stated = inr (refl, grew);
+      prints = record { printed = line; unprinted = []; whole = append-nil line; grew = grew };
+      silent = λ memory. absurd (no_memory memory);
+      disk = printed.disk;
+      faults = record { rose = λ is. absurd (no_fault (subst IsFault (sym is) tt)); stood = λ _. cause.kept };
+      device = λ device is. absurd (no_fault (subst IsFault (sym is) tt));
+    }
+
+pub looks_failed : {E : Type 0} {fault : E} (wanted : Note) (slice line : List ℕ) (d e : DiskState) (o p : HostState) → slice ≡ line → p.told ≡ told_with o.told (take (e.mark - d.mark) slice) → p.warned ≡ o.warned
+    → MovesMark {T = Unit {0}} o.told d e slice (Err fault) → KeepsFiles d e → HasCause {T = Unit {0}} d.faults e.faults (Err fault) → Looks wanted line (moment d o) (moment e p) (DeviceFault Host)
+looks_failed {fault = fault} wanted slice line d e o p same told warned moves keeps cause =
+    let printed = prints_failed {T = Unit {0}} line slice d e o p fault same told warned moves keeps cause in
+    record {
+      stated = inl (inl tt);
+      prints = record { printed = printed.some.printed; unprinted = printed.some.unprinted; whole = printed.some.whole ∙ append-nil line; grew = printed.some.grew };
+      silent = λ memory. absurd (cc memory);
+      disk = printed.disk;
+      faults = record { rose = λ _. cause.failed; stood = λ not. absurd (not refl) };
+      device = λ device is. cc is;
     }

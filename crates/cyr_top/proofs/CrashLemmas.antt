@@ -1,9 +1,7 @@
 -- What is left of a run, in words of maps and transactions.
-use Rattle.std.proofs.Common.{◌≡◌, ◌⊎◌, inl, inr, ⊎_elim, ℕ, ◌-◌, ◌≤◌, Bool, true, List, Option, None, Some, length, refl, sym, ◌∙◌, ap, subst, arith}
-use Rattle.std.specs.Prelude.{IsSome}
+use Rattle.std.proofs.Common.{◌≡◌, ◌⊎◌, inl, inr, ⊎_elim, ℕ, ◌-◌, true, List, Option, None, Some, length, refl, sym, ◌∙◌, ap, subst, arith}
 use Rattle.base_bytes.specs.OrderedMap.{Map}
-use Rattle.base_bytes.specs.Transactions.{after_first}
-use Rattle.base_devices.specs.CrashImages.{Image, DiskState, GoesOn, IsMoment, LeavesOnly, WhereRead, IsAbsent, Shows}
+use Rattle.base_devices.specs.CrashImages.{Image, DiskState, GoesOn, IsMoment, IsAbsent, Shows}
 use Rattle.base_devices.specs.Frames.{SameDisk, KeepsFile}
 use Rattle.base_devices.specs.HostCalls.{HostState, HostMoment, moment, told_with}
 use Rattle.base_devices.proofs.FrameLemmas.{file_still, leaves_twice}
@@ -15,15 +13,14 @@ use Rattle.base_notes.specs.declared.action.Action.TheVariants.{Consistent}
 use Rattle.base_notes.specs.declared.note.Device.TheVariants.{Host}
 use Rattle.base_notes.specs.declared.note.Note.{Note}
 use Rattle.base_notes.specs.declared.note.Note.TheVariants.{Memory}
-use Rattle.db_core.specs.Sessions.{DbKind, DbLaws, DbState}
-use Rattle.db_core.specs.declared.opening.OpenFault.{OpenFault}
+use Rattle.db_core.specs.Sessions.{DbLaws, DbState}
 use Rattle.db_tool.specs.Tasks.{KeepsPrefix, task_of}
 use Rattle.db_tool.specs.ToolNotes.{IsFault, IsCutOff, Faults}
-use Rattle.cyr_top.specs.Actions.{IsBefore, KeepsRead, IsStart, StandsAt, EndsAt, opened, not_opened, checked, IsStatedBy, DoesAction, DrawsFor, but_warned}
+use Rattle.cyr_top.specs.Actions.{IsBefore, IsStart, StandsAt, EndsAt, opened, not_opened, checked, DoesAction, DrawsFor, but_warned}
 use Rattle.cyr_top.specs.Asked.{Asked, task_for}
 use Rattle.cyr_top.specs.Crashes.{StartsAt, opened as opens_now, to_make, IsNotMade, LeavesPrefixes, LeavesAtEnd, KeepsPromises}
-use Rattle.cyr_top.specs.Stated.{StartsFrom, StatedResult, made_session}
-use Rattle.cyr_top.proofs.StatedLemmas.{none_opens, starts_once, starts_fails, stated_once, task_plain}
+use Rattle.cyr_top.specs.Stated.{StartsFrom, StatedResult}
+use Rattle.cyr_top.proofs.StatedLemmas.{starts_once, starts_fails, stated_once, task_plain}
 use Rattle.cyr_top.proofs.ActLemmas.{some_of, read_of, left_at_end}
 
 module _ (asked : Asked) (laws : DbLaws asked.kind) (o p : HostState) (d e : DiskState) (note : Note) (de : GoesOn d e) (moment_d : IsMoment d) (moment_e : IsMoment e) (does : DoesAction asked (moment d o) (moment e p) note) where
@@ -177,3 +174,9 @@ nothing_done asked m is = record {
 
 pub nothing_drawn : (asked : Asked) (d : DiskState) (words : Stream) → DrawsFor asked d words words Memory
 nothing_drawn asked d words = record { count = 0; drawn = refl; opened = λ main is s starts. (omega arith, inl (inr refl)); unopened = λ main is f un. refl }
+
+-- what was done is promised of the run, once its note was printed to standard error
+pub promised : (asked : Asked) → DbLaws asked.kind → (o p q : HostState) (d x e : DiskState) (note : Note) → GoesOn d e → IsMoment d → IsMoment e → SameDisk x e → q.told ≡ p.told → q.tell_faults ≡ p.tell_faults
+    → DoesAction asked (moment d o) (moment x p) note → KeepsPromises asked (moment d o) (but_warned e o q) note
+promised asked laws o p q d x e note de moment_d moment_e same told faults does =
+    keeps_promises asked laws o (record q { warned = o.warned }) d e note de moment_d moment_e (does_still asked o p q d x e note same told faults does)

@@ -2,11 +2,11 @@
 use Rattle.std.proofs.Common.{◌≡◌, ◌⊎◌, inl, inr, ⊎_elim, ℕ, ◌-◌, ◌≤◌, true, false, List, [], Option, Some, None, Result, Ok, Err, refl, sym, ◌∙◌, ap, subst, arith}
 use Rattle.std.specs.Prelude.{IsSome, OnOk}
 use Rattle.base_bytes.specs.OrderedMap.{Map}
-use Rattle.base_devices.specs.Causes.{Rose, HasCause}
+use Rattle.base_devices.specs.Causes.{HasCause}
 use Rattle.base_devices.specs.CrashImages.{Image, DiskState, GoesOn, IsMoment, IsDurable, LeavesOnly, Reads, IsAbsent, WhereRead}
 use Rattle.base_devices.specs.DiskCalls.{DiskCall, IsLength}
 use Rattle.base_devices.specs.Frames.{KeepsMain, StaysAs, KeepsFile, Replaces, MayReplace}
-use Rattle.base_devices.specs.HostCalls.{HostState, HostMoment, moment, told_with}
+use Rattle.base_devices.specs.HostCalls.{HostState, moment, told_with}
 use Rattle.base_devices.specs.Time.{goes_then}
 use Rattle.base_devices.proofs.FrameLemmas.{file_of_stays, file_then, leaves_twice}
 use Rattle.base_devices.proofs.Lengths.{absent_length}
@@ -14,20 +14,20 @@ use Rattle.base_devices.proofs.Moments.{each_then, where_told, stays_call}
 use Rattle.base_notes.specs.declared.action.Action.{Action}
 use Rattle.base_notes.specs.declared.note.Device.TheVariants.{Host}
 use Rattle.base_notes.specs.declared.note.Note.{Note}
-use Rattle.base_notes.specs.declared.note.Note.TheVariants.{DeviceFault, Memory}
+use Rattle.base_notes.specs.declared.note.Note.TheVariants.{DeviceFault}
 use Rattle.db_core.specs.Sessions.{DbKind, DbLaws, DbState, at_rest}
 use Rattle.db_core.specs.declared.opening.OpenFault.{OpenFault}
 use Rattle.db_core.specs.declared.opening.OpenFault.TheVariants.{Absent as NoFile, TooBig, NoMemory as NoRoom, DiskFault as NoDisk, Damaged as Flawed}
 use Rattle.db_tool.specs.Printing.{PrintsSome}
-use Rattle.db_tool.specs.Tasks.{Given, KeepsPrefix, KeepsUpTo}
-use Rattle.db_tool.specs.ToolNotes.{IsFault, IsCutOff, Faults}
+use Rattle.db_tool.specs.Tasks.{Given}
+use Rattle.db_tool.specs.ToolNotes.{Faults}
 use Rattle.db_tool.proofs.PrintLemmas.{printed_still, some_none}
 use Rattle.rand_core.specs.Stream.{Stream}
-use Rattle.cyr_top.specs.Actions.{IsBefore, KeepsRead, IsStart, StandsAt, EndsAt, opened, not_opened, checked, IsStatedBy, DoesAction, DrawsFor, IsMade}
+use Rattle.cyr_top.specs.Actions.{IsBefore, KeepsRead, IsStart, EndsAt, opened, not_opened, checked, DoesAction, DrawsFor, IsMade}
 use Rattle.cyr_top.specs.Asked.{Asked, asking, task_for}
 use Rattle.cyr_top.specs.Stated.{StartsFrom, IsUnopened, StatedResult, acted, unopened, made_session}
 use Rattle.cyr_top.proofs.StatedLemmas.{same_bytes, none_opens, opens_fails, task_plain}
-use Rattle.cyr_top.proofs.ActLemmas.{some_of, read_of, left_at_end, image_of}
+use Rattle.cyr_top.proofs.ActLemmas.{some_of, left_at_end, image_of}
 
 -- ---- the file is made
 

@@ -1,19 +1,18 @@
 -- What is stated of an action is stated once.
-use Rattle.std.proofs.Common.{◌≡◌, inl, inr, ℕ, Bool, true, false, List, [], ◌∷◌, Option, Some, None, length, refl, sym, ◌∙◌, ap, subst, arith}
+use Rattle.std.proofs.Common.{◌≡◌, inl, inr, ℕ, Bool, true, false, List, Option, Some, None, length, refl, sym, ◌∙◌, ap, subst, arith}
 use Rattle.std.specs.Prelude.{is_some, if◌then◌else◌}
 use Rattle.rand_core.specs.Stream.{next_u32}
 use Rattle.base_bytes.specs.OrderedMap.{Map, value_at}
 use Rattle.base_bytes.specs.declared.change.Change.{Change}
 use Rattle.base_bytes.specs.declared.change.Change.TheVariants.{Put, Del}
 use Rattle.base_bytes.specs.declared.flaw.Damage.{Damage}
-use Rattle.base_bytes.specs.declared.flaw.Flaw.{Flaw}
 use Rattle.base_devices.specs.CrashImages.{Image}
 use Rattle.base_notes.specs.declared.action.Action.{Action}
 use Rattle.base_notes.specs.declared.action.Action.TheVariants.{Show, Get, Set, Delete, Consistent, Repack, Batch, Exercise}
 use Rattle.base_notes.specs.declared.note.Device.{Device}
 use Rattle.base_notes.specs.declared.note.Device.TheVariants.{Host}
 use Rattle.base_notes.specs.declared.note.Note.{Note}
-use Rattle.base_notes.specs.declared.note.Note.TheVariants.{Done, Answer, Usage, DeviceFault, Memory}
+use Rattle.base_notes.specs.declared.note.Note.TheVariants.{Done, Answer, Usage, DeviceFault}
 use Rattle.db_core.specs.Opening.{OpensTo}
 use Rattle.db_core.specs.Sessions.{DbKind, DbLaws, DbState, at_rest}
 use Rattle.db_core.specs.declared.fault.DbFault.{DbFault}

@@ -1,14 +1,13 @@
 -- How an action runs over a host.
-use Rattle.std.specs.Prelude.{◌≡◌, ◌⊎◌, ℕ, ◌-◌, ◌≤◌, Bool, true, List, [], Option, Some, None, Result, OnOk, length}
+use Rattle.std.specs.Prelude.{◌≡◌, ◌⊎◌, ℕ, ◌-◌, ◌≤◌, true, List, Some, None, Result, OnOk, length}
 use Rattle.base_bytes.specs.Transactions.{after_first}
 use Rattle.base_devices.specs.CrashImages.{Image, DiskState, Reads, IsAbsent, WhereRead, LeavesOnly, LeavesSame, IsDurable}
 use Rattle.base_devices.specs.Frames.{StaysAs, KeepsFile}
 use Rattle.base_devices.specs.HostCalls.{HostState, HostMoment, moment, told_with}
 use Rattle.base_notes.specs.declared.action.Action.TheVariants.{Consistent}
-use Rattle.base_notes.specs.declared.note.Device.{Device}
 use Rattle.base_notes.specs.declared.note.Device.TheVariants.{Host}
 use Rattle.base_notes.specs.declared.note.Note.{Note}
-use Rattle.base_notes.specs.declared.note.Note.TheVariants.{Usage, Memory, DeviceFault}
+use Rattle.base_notes.specs.declared.note.Note.TheVariants.{Usage, Memory}
 use Rattle.db_core.specs.Sessions.{DbKind, DbState}
 use Rattle.db_core.specs.declared.opening.OpenFault.{OpenFault}
 use Rattle.db_tool.specs.Printing.{PrintsSome}

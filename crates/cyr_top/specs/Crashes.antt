@@ -1,8 +1,8 @@
 -- What a crash may leave of a database, in words of maps and transactions.
-use Rattle.std.specs.Prelude.{◌≡◌, ◌⊎◌, ℕ, ◌-◌, ◌≤◌, Bool, true, List, None, Some, length}
+use Rattle.std.specs.Prelude.{◌≡◌, ◌⊎◌, ℕ, ◌-◌, ◌≤◌, true, List, None, length}
 use Rattle.base_bytes.specs.OrderedMap.{Map}
 use Rattle.base_bytes.specs.Transactions.{after_first}
-use Rattle.base_devices.specs.CrashImages.{Image, DiskState, Shows, IsAbsent, WhereRead, LeavesOnly}
+use Rattle.base_devices.specs.CrashImages.{Image, DiskState, Shows, WhereRead, LeavesOnly}
 use Rattle.base_devices.specs.HostCalls.{HostMoment, told_with}
 use Rattle.base_notes.specs.declared.note.Note.{Note}
 use Rattle.base_notes.specs.declared.note.Note.TheVariants.{Memory}

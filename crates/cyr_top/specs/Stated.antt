@@ -1,5 +1,5 @@
 -- The stated result of an action: its note and its output, by what the main file reads.
-use Rattle.std.specs.Prelude.{◌≡◌, ◌⊎◌, ℕ, Bool, true, List, [], ◌++◌, None, codes, decimal}
+use Rattle.std.specs.Prelude.{◌≡◌, ◌⊎◌, ℕ, true, List, [], ◌++◌, None, codes, decimal}
 use Rattle.base_bytes.specs.Flaws.{flaw_text}
 use Rattle.base_bytes.specs.declared.flaw.Flaw.{Flaw}
 use Rattle.base_devices.specs.CrashImages.{Image, DiskState}
@@ -14,7 +14,7 @@ use Rattle.base_notes.specs.declared.note.Note.TheVariants.{Done, Answer, Usage,
 use Rattle.db_core.specs.Opening.{OpensTo, IsOpenRefusal}
 use Rattle.db_core.specs.Sessions.{DbState, at_rest}
 use Rattle.db_core.specs.declared.opening.OpenFault.{OpenFault}
-use Rattle.db_core.specs.declared.opening.OpenFault.TheVariants.{Absent as NoFile, TooBig, NoMemory as NoRoom, DiskFault as NoDisk, Damaged as Flawed}
+use Rattle.db_core.specs.declared.opening.OpenFault.TheVariants.{Absent as NoFile, NoMemory as NoRoom, DiskFault as NoDisk, Damaged as Flawed}
 use Rattle.db_tool.specs.ToolNotes.{Faults, opening_note}
 use Rattle.cyr_top.specs.Asked.{Asked, task_for}
 

@@ -9,10 +9,9 @@ ghost use Rattle.db_tool.specs.Tasks.{CanAct, given};
 ghost use Rattle.rand_core.specs.Stream.{Stream};
 ghost use Rattle.flat_db.specs.Sessions.{flat_kind};
 
-use crate::checking::{end_with, line_of_flaw};
+use crate::checking::{end_with, flaw_of, line_of_flaw};
 use base_devices::{Failed, Host};
 use base_notes::{Action, Device, Note};
-use db_core::OpenFault;
 use db_tool::{HOST_FAULT, act, note_of_opening};
 use flat_db::{check_db, create, open_db};
 use rand_core::Rng;
@@ -38,12 +37,13 @@ fn check<H: Host>(alloc: Global, host: &mut H) -> Note
         (moment (H.state host.new) (H.streams host.new)) result }
     ensures rest { H.host_rest host.old host.new }
 {
-    match check_db(alloc, host) {
-        Ok(_) => end_with(host, "consistent\n", Note::Done),
-        Err(OpenFault::Damaged { at, check }) => {
-            end_with(host, line_of_flaw(at, check).as_str(), Note::Answer)
-        }
-        Err(fault) => note_of_opening(Device::Host, fault),
+    let fault = match check_db(alloc, host) {
+        Ok(_) => return end_with(host, "consistent\n", Note::Done),
+        Err(fault) => fault,
+    };
+    match flaw_of(fault) {
+        Some(flaw) => end_with(host, line_of_flaw(flaw).as_str(), Note::Answer),
+        None => note_of_opening(Device::Host, fault),
     }
 }
 
