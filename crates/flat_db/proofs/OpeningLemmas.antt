@@ -1,5 +1,5 @@
 -- What is known of a file once it was opened.
-use Rattle.std.proofs.Common.{◌≡◌, ◌⊎◌, inl, inr, Result, Ok, Err, refl, ap}
+use Rattle.std.proofs.Common.{◌≡◌, ◌⊎◌, inl, inr, Result, Ok, Err, ap}
 use Rattle.std.specs.Prelude.{IfErr, OnOk}
 use Rattle.base_bytes.specs.OrderedMap.{Map, IsDbMap}
 use Rattle.base_devices.specs.CrashImages.{DiskState, IsDurable, WhereRead}

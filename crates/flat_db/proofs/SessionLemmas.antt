@@ -9,7 +9,7 @@ use Rattle.base_devices.specs.Causes.{FaultHasCause}
 use Rattle.base_devices.specs.CrashImages.{Image, DiskState, IsMoment}
 use Rattle.base_bytes.specs.OrderedMap.{Map, IsOrderedMap, IsDbMap, first_from, first_above, pairs_from, put, value_at, without}
 use Rattle.base_bytes.specs.declared.limits.TheConstants.{FLAT_LIMIT}
-use Rattle.db_core.specs.Calls.{OnDisk, MakesCall, OpensCommitted, OpensEither}
+use Rattle.db_core.specs.Calls.{OnDisk, MakesCall, OpensEither}
 use Rattle.db_core.specs.Refusals.{Answers, IsAfterRefusal, IsDiskFault, LeavesDisk, broken_refusal, pair_refusal, size_refusal, store_refusal, delete_refusal}
 use Rattle.db_core.specs.Sessions.{DbKind, DbState, over, stored, deleted, committed, aborted}
 use Rattle.db_core.specs.declared.fault.DbFault.{DbFault}
