@@ -1,9 +1,12 @@
 -- A session that keeps its maps in memory, by its parts.
-use Rattle.std.proofs.Common.{◌≡◌, ℕ, Bool, true, false, List, [], Vec, map, length, Result, refl}
+use Rattle.std.proofs.Common.{◌≡◌, ℕ, Bool, true, false, List, [], ◌∷◌, Vec, map, length, Result, refl}
 use Rattle.std.specs.Prelude.{◌+◌, ◌&&◌, if◌then◌else◌}
 use Rattle.std.specs.declared.alloc.Global.{Global}
 use Rattle.base_bytes.specs.declared.change.Change.{Change}
-use Rattle.base_bytes.specs.OrderedMap.{Map}
+use Rattle.std.specs.Coded.{×_prop, Unit-prop}
+use Rattle.std.specs.Ordering.{Ordering-set}
+use Rattle.base_bytes.specs.OrderedMap.{Map, BeginsAbove, IsOrderedMap, key_order}
+use Rattle.std.specs.declared.cmp.Ordering.TheVariants.{Less}
 use Rattle.db_core.specs.Refusals.{Answers, change_refusal}
 use Rattle.db_core.specs.Sessions.{DbKind, DbState, aborted, change_after}
 use Rattle.db_core.specs.declared.fault.DbFault.{DbFault}
@@ -26,6 +29,15 @@ counting_kind limit = record {
 -- the map that a tree of vectors holds
 abbrev pub pairs_in : List (Vec ℕ Global × Vec ℕ Global) → Map
 pairs_in entries = map (λ e. (e.0.items, e.1.items)) entries
+
+-- that a map is ordered has one proof at most
+begins_prop : (key : List ℕ) (m : Map) → IsProp (BeginsAbove key m)
+begins_prop key [] = Unit-prop
+begins_prop key (p ∷ m) = Ordering-set (key_order key p.0) Less
+
+pub ordered_prop : (m : Map) → IsProp (IsOrderedMap m)
+ordered_prop [] = Unit-prop
+ordered_prop (p ∷ m) = ×_prop (begins_prop p.0 m) (ordered_prop m)
 
 -- its state: whether a transaction stands, the map seen and the one that it goes back to, their loads, and whether something changed
 abbrev pub memory_state : Bool → Map → Map → ℕ → ℕ → Bool → DbState

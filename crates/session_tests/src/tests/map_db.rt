@@ -1,9 +1,10 @@
 // A session whose maps are in memory alone: the smallest that meets the trait.
-ghost use Rattle.std.specs.Prelude.{◌≡◌, ◌≤◌, true, IfOk, IfErr, is_some};
-ghost use Rattle.base_bytes.specs.OrderedMap.{IsDbMap, value_at};
+ghost use Rattle.std.specs.Prelude.{◌≡◌, ◌≢◌, ◌≤◌, [], true, IfOk, IfErr, is_some};
+ghost use Rattle.std.specs.List.{All};
+ghost use Rattle.base_bytes.specs.OrderedMap.{IsOrderedMap, value_at};
 ghost use Rattle.base_bytes.specs.declared.change.Change.TheVariants.{Put, Del};
 ghost use Rattle.db_core.specs.Refusals.{IsDiskFault};
-ghost use Rattle.session_tests.specs.MemorySessions.{AnswersChange, memory_state, pairs_in};
+ghost use Rattle.session_tests.specs.MemorySessions.{AnswersChange, memory_state, ordered_prop, pairs_in};
 
 use base_bytes::{Pair, compare_keys};
 use base_devices::Disk;
@@ -26,8 +27,10 @@ pub struct MapDb {
     saved_changes: u64,
     ghost few: { changes ≤ 9 },
     ghost saved_few: { saved_changes ≤ 9 },
-    ghost sound: { IsDbMap (pairs_in seen.entries) },
-    ghost saved_sound: { IsDbMap (pairs_in saved.entries) },
+    ghost ordered: { IsOrderedMap (pairs_in seen.entries) } by { ordered_prop (pairs_in seen.entries) },
+    ghost some: { All (λ p. p.0 ≢ []) (pairs_in seen.entries) },
+    ghost saved_ordered: { IsOrderedMap (pairs_in saved.entries) } by { ordered_prop (pairs_in saved.entries) },
+    ghost saved_some: { All (λ p. p.0 ≢ []) (pairs_in saved.entries) },
 }
 
 impl MapDb {
