@@ -8,7 +8,7 @@ use Rattle.flat_db.specs.FlatText.{canonical_text, SaysPairs, put_all, FlatTextO
 use Rattle.flat_db.specs.Entries.{pairs_of, EndsBy}
 use Rattle.flat_db.specs.Kept.{IsKept, SameEntries, map_among}
 use Rattle.flat_db.specs.declared.pairs.Pairs.{Pairs}
-use Rattle.flat_db.specs.declared.entries.Entry.{Entry}
+use Rattle.flat_db.specs.declared.pairs.Entry.{Entry}
 use Rattle.flat_db.proofs.LineLemmas.{pairs_below, ends_later}
 
 pub grown_pairs : (bytes new more : List ℕ) (entries : List Entry) → new ≡ bytes ++ more → All (EndsBy (length bytes)) entries → pairs_of new entries ≡ pairs_of bytes entries

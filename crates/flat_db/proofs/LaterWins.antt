@@ -12,7 +12,7 @@ use Rattle.base_bytes.specs.OrderedMap.{Map, IsBelow, IsOrderedMap, BeginsAbove,
 use Rattle.base_bytes.proofs.OrderedMaps.{value_put, is_at_key, above_turned, chosen_twice, no_value_before, same_map, value_first}
 use Rattle.flat_db.specs.FlatText.{put_all}
 use Rattle.flat_db.specs.Entries.{part_of, pair_of, pairs_of}
-use Rattle.flat_db.specs.declared.entries.Entry.{Entry}
+use Rattle.flat_db.specs.declared.pairs.Entry.{Entry}
 use Rattle.flat_db.proofs.Canonical.{put_pair, puts_ordered}
 
 -- ---- a later pair wins

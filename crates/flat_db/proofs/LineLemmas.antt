@@ -7,8 +7,8 @@ use borrow.Rule.Slice.PartMut.{put_mid, post_of}
 use Rattle.base_bytes.specs.OrderedMap.{Map}
 use Rattle.flat_db.specs.FlatText.{IsFree, HasLine, SaysPair, SaysPairs}
 use Rattle.flat_db.specs.Entries.{part_of, pair_of, pairs_of, EndsBy}
-use Rattle.flat_db.specs.declared.entries.Span.{Span}
-use Rattle.flat_db.specs.declared.entries.Entry.{Entry}
+use Rattle.flat_db.specs.declared.pairs.Span.{Span}
+use Rattle.flat_db.specs.declared.pairs.Entry.{Entry}
 
 abbrev pub line_of : List ℕ → ℕ → ℕ → List ℕ
 line_of text at end = take (end - at) (drop at text)

@@ -11,7 +11,7 @@ use Rattle.flat_db.specs.FlatText.{pair_line, canonical_text}
 use Rattle.flat_db.specs.Entries.{EndsBy, part_of, pair_of, pairs_of}
 use Rattle.flat_db.specs.Kept.{IsKept, map_among}
 use Rattle.flat_db.specs.Places.{HasKeyAt, LacksKeyAt}
-use Rattle.flat_db.specs.declared.entries.Entry.{Entry}
+use Rattle.flat_db.specs.declared.pairs.Entry.{Entry}
 use Rattle.flat_db.specs.declared.pairs.Pairs.{Pairs}
 use Rattle.flat_db.proofs.PlaceLemmas.{entry_pair, set_pairs, insert_pairs, remove_pairs, put_own, put_between, without_own}
 use Rattle.flat_db.proofs.Sizes.{size_without_own}

@@ -13,7 +13,7 @@ use Rattle.base_bytes.specs.OrderedMap.{Map, IsBelow, IsOrderedMap, BeginsAbove,
 use Rattle.base_bytes.proofs.OrderedMaps.{EndsBelow, below_then, below_turned, without_behind, without_here, above_turned, begins_above_then, no_value_before, value_behind, value_here, put_behind, put_over, put_before, same_key, is_at_key, key_itself}
 use Rattle.flat_db.specs.Entries.{part_of, pair_of, pairs_of}
 use Rattle.flat_db.specs.Places.{IsPlaceOf, HasKeyAt, LacksKeyAt}
-use Rattle.flat_db.specs.declared.entries.Entry.{Entry}
+use Rattle.flat_db.specs.declared.pairs.Entry.{Entry}
 
 pub is_below : (o : Ordering) → is_lt o ≡ true → o ≡ Less
 is_below Less is = refl

@@ -9,9 +9,9 @@ use Rattle.base_devices.specs.Causes.{FaultHasCause}
 use Rattle.base_devices.specs.CrashImages.{Image, DiskState, IsMoment}
 use Rattle.base_bytes.specs.OrderedMap.{Map, IsOrderedMap, IsDbMap, first_from, first_above, pairs_from, put, value_at, without}
 use Rattle.base_bytes.specs.declared.limits.TheConstants.{FLAT_LIMIT}
-use Rattle.db_core.specs.Calls.{OnDisk, MakesCall, OpensCommitted, OpensEither}
+use Rattle.db_core.specs.Calls.{OnDisk, MakesCall, OpensEither}
 use Rattle.db_core.specs.Refusals.{Answers, IsAfterRefusal, IsDiskFault, LeavesDisk, broken_refusal, pair_refusal, size_refusal, store_refusal, delete_refusal}
-use Rattle.db_core.specs.Sessions.{DbState, over, stored, deleted, committed, aborted}
+use Rattle.db_core.specs.Sessions.{DbKind, DbState, over, stored, deleted, committed, aborted}
 use Rattle.db_core.specs.declared.fault.DbFault.{DbFault}
 use Rattle.db_core.specs.declared.fault.DbFault.TheVariants.{Broken as Refused, Full, DiskFault}
 use Rattle.flat_db.specs.FlatText.{canonical_text}
@@ -51,13 +51,12 @@ answered_tied owed wanted s t d (Err fault) answer no_fault committed is_broken 
     let same = refused_same fault (flat_state s) (flat_state t) no_fault answer.after in
     tied_same s t d (ap (λ (u : DbState). u.committed) same) (ap (λ (u : DbState). u.is_broken) same) tie
 
--- and what it leaves is what could be left
-pub makes_no_call : {T : Type 0} (owed : Option DbFault) (wanted : DbState) (s t : FlatSession) (d : DiskState) (result : Result T DbFault)
-    → Answers owed (flat_state s) (flat_state t) wanted result → IfErr result (λ fault. ¬ IsDiskFault fault) → IsMoment d → FlatTied s d
-    → MakesCall flat_kind owed wanted (OpensCommitted flat_kind (flat_state s)) (over d (flat_state s)) (over d (flat_state t)) result
-makes_no_call {T = T} owed wanted s t d result answer no_fault moment tie = record {
+-- and what it leaves is what could be left; this holds of each kind
+pub makes_no_call : {T : Type 0} (kind : DbKind) (owed : Option DbFault) (wanted : DbState) (Q : Image → Type 0) (s t : DbState) (d : DiskState) (result : Result T DbFault)
+    → Answers owed s t wanted result → IfErr result (λ fault. ¬ IsDiskFault fault) → IsMoment d → (s.is_broken ≡ false → (i : Image) → d.leaves i → Q i) → MakesCall kind owed wanted Q (over d s) (over d t) result
+makes_no_call {T = T} kind owed wanted Q s t d result answer no_fault moment leaves = record {
   answer = answer;
-  disk = record { each = λ sound. record { each = λ i n left. let now = moment.now i n left in (now.1, tie.leaves sound i now.0) }; mark = refl };
+  disk = record { each = λ sound. record { each = λ i n left. let now = moment.now i n left in (now.1, leaves sound i now.0) }; mark = refl };
   in_place = λ in_place. refl;
   cause = by result no_fault;
 }

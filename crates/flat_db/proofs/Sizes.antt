@@ -12,7 +12,7 @@ use Rattle.base_bytes.proofs.EscapeLemmas.{escaped_bound, byte_cases}
 use Rattle.base_bytes.proofs.OrderedMaps.{same_key}
 use Rattle.flat_db.specs.FlatText.{pair_line, canonical_text, SaysPair, SaysPairs, FlatTextOf}
 use Rattle.flat_db.specs.Entries.{part_of, pair_of, pairs_of}
-use Rattle.flat_db.specs.declared.entries.Entry.{Entry}
+use Rattle.flat_db.specs.declared.pairs.Entry.{Entry}
 use Rattle.flat_db.specs.Places.{HasKeyAt, LacksKeyAt}
 use Rattle.flat_db.proofs.Canonical.{put_pair}
 use Rattle.flat_db.proofs.PlaceLemmas.{put_own, put_between, without_own}

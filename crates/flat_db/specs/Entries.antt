@@ -1,8 +1,8 @@
 -- How a map lies in memory: some bytes, and for each pair where its key and its value stand among them.
 use Rattle.std.specs.Prelude.{ℕ, ◌+◌, ◌≤◌, List, map, take, drop}
 use Rattle.base_bytes.specs.OrderedMap.{Map}
-use Rattle.flat_db.specs.declared.entries.Span.{Span}
-use Rattle.flat_db.specs.declared.entries.Entry.{Entry}
+use Rattle.flat_db.specs.declared.pairs.Span.{Span}
+use Rattle.flat_db.specs.declared.pairs.Entry.{Entry}
 
 abbrev pub part_of : List ℕ → Span → List ℕ
 part_of bytes span = take span.size (drop span.start bytes)

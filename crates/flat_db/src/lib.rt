@@ -1,13 +1,18 @@
 //! Databases kept as flat text.
+//!
+//! Read in this order:
+//!   lines, reading      a text is read: its lines, and its pairs in order, a later one winning
+//!   pairs, flat_map     a map in memory: where its pairs stand among some bytes
+//!   writing, replacing  a map is written in pieces, and its text put in the place of the main file
+//!   session, opening    a session over a file, and how it is opened, looked through and made
+//!   laws                what holds of every text
 #![tactic(auto)]
 
-mod entries;
 mod flat_map;
 mod laws;
 mod lines;
 mod opening;
 mod pairs;
-mod places;
 mod reading;
 mod replacing;
 mod session;

@@ -4,7 +4,7 @@ ghost use Rattle.flat_db.specs.FlatText.{IsFree, HasLine, SaysPair, IsLineFlaw};
 ghost use Rattle.flat_db.specs.Lines.{HasTab, IsFlawedLine};
 ghost use Rattle.flat_db.specs.Entries.{EndsBy, pair_of};
 
-use crate::entries::{Entry, Span};
+use crate::pairs::{Entry, Span};
 use base_bytes::{Damage, Flaw, bad_escape, unescape};
 use memchr::memchr;
 
@@ -57,8 +57,10 @@ struct Fields {
 // Reads a line. Its fields are unescaped in their own place, since they only become shorter: so the text is
 // its own memory, a field without an escape stays where it was read, and none is copied.
 fn read_line(line: &mut [u8]) -> Result<Fields, LineFlaw>
-    ensures pair { IfOk result (λ fields. SaysPair line.old (take fields.key line.new, take fields.value (drop (fields.tab + 1) line.new))) }
-    ensures within { IfOk result (λ fields. (fields.key ≤ fields.tab) × (fields.tab + 1 + fields.value ≤ length line.new)) }
+    ensures pair { IfOk result (λ fields. SaysPair line.old
+        (take fields.key line.new, take fields.value (drop (fields.tab + 1) line.new))) }
+    ensures within { IfOk result (λ fields. (fields.key ≤ fields.tab)
+        × (fields.tab + 1 + fields.value ≤ length line.new)) }
     ensures flaw { IfErr result (λ flaw. IsLineFlaw line.old flaw.at flaw.check) }
 {
     let tab = tab_of(line)?;
@@ -95,7 +97,9 @@ pub(crate) fn line_at(text: &mut [u8], at: usize) -> Result<Line, Damage>
     ensures next { IfOk result (λ line. (at < line.next) × (line.next ≤ length text.old)) }
     ensures before { IfOk result (λ line. take at text.new ≡ take at text.old) }
     ensures after { IfOk result (λ line. drop line.next text.new ≡ drop line.next text.old) }
-    ensures pair { IfOk result (λ line. (whole : List ℕ) × HasLine (drop at text.old) whole (drop line.next text.old) × SaysPair whole (pair_of text.new line.entry)) }
+    ensures pair { IfOk result (λ line. (whole : List ℕ)
+        × HasLine (drop at text.old) whole (drop line.next text.old)
+        × SaysPair whole (pair_of text.new line.entry)) }
     ensures ends { IfOk result (λ line. EndsBy line.next line.entry) }
     ensures flaw { IfErr result (λ damage. IsFlawedLine at (drop at text.old) damage) }
 {

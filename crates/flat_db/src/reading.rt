@@ -8,8 +8,8 @@ ghost use Rattle.flat_db.specs.Entries.{EndsBy, part_of, pairs_of};
 ghost use Rattle.flat_db.specs.Reading.{IsFlatFault};
 
 use crate::FlatFault;
-use crate::entries::{Entry, part};
 use crate::lines::line_at;
+use crate::pairs::{Entry, part};
 use base_bytes::{Damage, compare_keys, escaped_size};
 use std::alloc::AllocError;
 
@@ -45,8 +45,10 @@ fn keys_rise(bytes: &[u8], entries: &[Entry]) -> bool
 // Puts entries in the order of their keys. Of some with one key the last is kept: they are turned round and
 // sorted, which keeps the order of equal keys, and then the first of each run stays.
 pub(crate) fn in_order(bytes: &[u8], entries: &mut Vec<Entry>) -> Result<(), AllocError>
-    ensures pairs { OnOk result (pairs_of bytes.now entries.new.items ≡ put_all (pairs_of bytes.now entries.old.items)) }
-    ensures ends { OnOk result ((end : ℕ) → All (EndsBy end) entries.old.items → All (EndsBy end) entries.new.items) }
+    ensures pairs { OnOk result (pairs_of bytes.now entries.new.items
+        ≡ put_all (pairs_of bytes.now entries.old.items)) }
+    ensures ends { OnOk result ((end : ℕ) → All (EndsBy end) entries.old.items
+        → All (EndsBy end) entries.new.items) }
 {
     if keys_rise(bytes, entries) {
         return Ok(());
@@ -59,7 +61,8 @@ pub(crate) fn in_order(bytes: &[u8], entries: &mut Vec<Entry>) -> Result<(), All
 
 // The size of a pair's line.
 pub(crate) fn line_size(bytes: &[u8], entry: Entry) -> u64
-    ensures { result ≡ length (pair_line (part_of bytes.now entry.key) (part_of bytes.now entry.value)) }
+    ensures { result
+        ≡ length (pair_line (part_of bytes.now entry.key) (part_of bytes.now entry.value)) }
 {
     (escaped_size(part(bytes, entry.key)) + escaped_size(part(bytes, entry.value)) + 2) as u64
 }

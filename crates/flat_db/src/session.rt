@@ -35,7 +35,8 @@ pub(crate) struct Transaction {
 
 impl Transaction {
     fn new(alloc: Global, seen: &Pairs, end: usize) -> Result<Transaction, NoMemory>
-        ensures { IfOk result (λ t. SameEntries seen.now t.committed × (t.end ≡ end) × (t.piece ≡ []) × (t.has_changed ≡ false)) }
+        ensures { IfOk result (λ t. SameEntries seen.now t.committed × (t.end ≡ end)
+            × (t.piece ≡ []) × (t.has_changed ≡ false)) }
     {
         Ok(Transaction {
             committed: seen.copy(alloc)?,
@@ -110,7 +111,8 @@ impl FlatDb {
 
     // Puts the pair into the map seen. What word a pair has makes no difference to flat text.
     fn put_pair(&mut self, key: &[u8], value: &[u8]) -> Result<(), DbFault>
-        requires { (flat_state self.old).is_broken ≡ false → (flat_state self.old).in_transaction ≡ true }
+        requires { (flat_state self.old).is_broken ≡ false
+            → (flat_state self.old).in_transaction ≡ true }
         ensures answer { AnswersChange (Put 0 key.now value.now) self.old self.new result }
         ensures no_fault { IfErr result (λ fault. ¬ IsDiskFault fault) }
     {
@@ -133,7 +135,8 @@ impl FlatDb {
 
     // Takes the key out of the map seen, and answers whether it was there.
     fn take_out(&mut self, key: &[u8]) -> Result<bool, DbFault>
-        requires { (flat_state self.old).is_broken ≡ false → (flat_state self.old).in_transaction ≡ true }
+        requires { (flat_state self.old).is_broken ≡ false
+            → (flat_state self.old).in_transaction ≡ true }
         ensures was_there { IfOk result
             (λ was. was ≡ is_some (value_at (flat_state self.old).seen key.now)) }
         ensures answer { AnswersChange (Del key.now) self.old self.new result }
@@ -157,7 +160,8 @@ impl FlatDb {
 
     // Goes back to the committed map.
     fn go_back(&mut self) -> Result<(), DbFault>
-        requires { (flat_state self.old).is_broken ≡ false → (flat_state self.old).in_transaction ≡ true }
+        requires { (flat_state self.old).is_broken ≡ false
+            → (flat_state self.old).in_transaction ≡ true }
         ensures answer { let s = flat_state self.old in
             Answers (broken_refusal s) s (flat_state self.new) (aborted s) result }
         ensures no_fault { IfErr result (λ fault. ¬ IsDiskFault fault) }
@@ -261,18 +265,21 @@ impl<D: Disk> Db<D> for FlatDb {
     }
 
     fn commit(&mut self, disk: &mut D) -> Result<(), DbFault>
-        requires within { (flat_state self.old).is_broken ≡ false → (flat_state self.old).in_transaction ≡ true }
+        requires within { (flat_state self.old).is_broken ≡ false
+            → (flat_state self.old).in_transaction ≡ true }
         requires tied { FlatTied self.old (D.state disk.old) }
         ensures commit { Commits flat_kind (over (D.state disk.old) (flat_state self.old))
             (over (D.state disk.new) (flat_state self.new)) result }
         ensures has_memory { ¬ IsErrOf result MemoryRanOut }
         ensures unharmed { LeavesDisk result disk.old disk.new }
-        ensures untouched { (flat_state self.old).has_changed ≡ false → OnOk result (disk.new ≡ disk.old) }
+        ensures untouched { (flat_state self.old).has_changed ≡ false
+            → OnOk result (disk.new ≡ disk.old) }
         ensures tied { FlatTied self.new (D.state disk.new) }
         ensures rest { D.disk_rest disk.old disk.new }
 
         // A transaction that changed something leaves the canonical text of the map seen.
-        ensures text { (flat_state self.old).has_changed ≡ true → OnOk result (Shows (D.state disk.old)
+        ensures text { (flat_state self.old).has_changed ≡ true
+            → OnOk result (Shows (D.state disk.old)
             → Reads (D.state disk.new) (canonical_text (flat_state self.old).seen)) }
     {
         if self.is_broken() {

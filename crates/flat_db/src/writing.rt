@@ -8,7 +8,7 @@ ghost use Rattle.flat_db.specs.Entries.{pairs_of};
 ghost use Rattle.flat_db.specs.FlatText.{canonical_text, pair_line};
 ghost use Rattle.flat_db.specs.Writing.{AddsBytes, Gathers, filling};
 
-use crate::entries::{Entry, part};
+use crate::pairs::{Entry, part};
 use base_bytes::Piece;
 use base_devices::{Disk, Failed};
 

@@ -1,11 +1,17 @@
 -- What the calls of a session in memory make of its state.
-use Rattle.std.proofs.Common.{◌≡◌, ℕ, ◌+◌, None, Bool, true, false, List, ap, sym}
-use Rattle.std.specs.Prelude.{◌&&◌, is_some, if◌then◌else◌}
-use Rattle.base_bytes.specs.OrderedMap.{Map, put, without, value_at}
+use Rattle.std.proofs.Common.{◌≡◌, ◌≤◌, ℕ, zero, suc, ◌+◌, None, Bool, true, false, cond, List, [], ◌∷◌, length, drop, ◌∙◌, ap, sym, arith}
+use Rattle.std.proofs.lemmas.List.{drop-drop, drop_all, length-drop}
+use Rattle.std.proofs.lemmas.List.Elements.{All-cons, All-nil}
+use Rattle.std.specs.List.{All}
+use Rattle.std.specs.Ordering.{is_lt}
+use Rattle.std.specs.declared.cmp.Ordering.{Ordering}
+use Rattle.base_bytes.proofs.OrderedMaps.{below_then, pairs_from_place}
+use Rattle.std.specs.Prelude.{◌&&◌, filter, is_some, not, if◌then◌else◌}
+use Rattle.base_bytes.specs.OrderedMap.{Map, IsBelow, IsDbMap, IsOrderedMap, key_order, pairs_from, put, without, value_at}
 use Rattle.db_core.specs.Sessions.{DbKind, DbState, begun, stored, deleted}
 use Rattle.base_bytes.specs.declared.change.Change.TheVariants.{Put, Del}
 use Rattle.session_tests.specs.MemorySessions.{counting_kind, memory_state}
-use Rattle.db_core.specs.Answers.{size_refusal, delete_refusal}
+use Rattle.db_core.specs.Refusals.{size_refusal, delete_refusal}
 
 pub begun_memory : (b : Bool) (seen saved copy : Map) (load saved_load : ℕ) (changed : Bool) → b ≡ false → copy ≡ seen → memory_state true seen copy load load false ≡ begun (memory_state b seen saved load saved_load changed)
 begun_memory true seen saved copy load saved_load changed closed same = absurd (cc closed)
@@ -41,3 +47,35 @@ module _ (kind : DbKind) (b : Bool) (seen saved : Map) (load saved_load : ℕ) (
 pub delete_owed : (limit : ℕ) (b : Bool) (seen saved : Map) (load saved_load : ℕ) (changed : Bool) (key : List ℕ) (there : Bool) → is_some (value_at seen key) ≡ there
     → delete_refusal (counting_kind limit) (memory_state b seen saved load saved_load changed) key ≡ (if there then size_refusal (counting_kind limit) (load + 1) else None)
 delete_owed limit b seen saved load saved_load changed key there is = ap (λ (t : Bool). if t then size_refusal (counting_kind limit) (load + 1) else None) is
+
+-- both maps are those of a database
+pub committed_sound : (b : Bool) (seen saved : Map) → IsDbMap seen → IsDbMap saved → IsDbMap (if b then saved else seen)
+committed_sound true seen saved one other = other
+committed_sound false seen saved one other = one
+
+-- ---- walks
+
+-- the pairs behind a place
+pub next_place : (p : List ℕ × List ℕ) (rest m : Map) (place : ℕ) → p ∷ rest ≡ drop place m → rest ≡ drop (place + 1) m
+next_place p rest m place is = ap (drop 1) is ∙ drop-drop 1 place m
+
+-- one whose key is below is left out, and the others are taken from the first that is not
+pub from_below : (p : List ℕ × List ℕ) (m : Map) (key : List ℕ) → IsBelow p.0 key → pairs_from (p ∷ m) key ≡ pairs_from m key
+unfolding pairs_from
+from_below p m key below = ap (λ (o : Ordering). cond (not (is_lt o)) (p ∷ filter (λ q. not (is_lt (key_order q.0 key))) m) (filter (λ q. not (is_lt (key_order q.0 key))) m)) below
+
+none_below : (p : List ℕ × List ℕ) (m : Map) (key : List ℕ) → IsOrderedMap (p ∷ m) → ¬ IsBelow p.0 key → All (λ q. ¬ IsBelow q.0 key) (p ∷ m)
+none_below p [] key ordered isnt = All-cons (λ q. ¬ IsBelow q.0 key) p [] isnt (All-nil (λ q. ¬ IsBelow q.0 key))
+none_below p (q ∷ m) key ordered isnt = All-cons (λ r. ¬ IsBelow r.0 key) p (q ∷ m) isnt (none_below q m key ordered.1 (λ below. isnt (below_then p.0 q.0 key ordered.0 below)))
+
+pub from_here : (p : List ℕ × List ℕ) (m : Map) (key : List ℕ) → IsOrderedMap (p ∷ m) → ¬ IsBelow p.0 key → pairs_from (p ∷ m) key ≡ p ∷ m
+from_here p m key ordered isnt = pairs_from_place (p ∷ m) key 0 (omega arith) (All-nil (λ q. IsBelow q.0 key)) (none_below p m key ordered isnt)
+
+pub dropped_ordered : (place : ℕ) (m : Map) → IsOrderedMap m → IsOrderedMap (drop place m)
+dropped_ordered zero m ordered = ordered
+dropped_ordered (suc place) [] ordered = tt
+dropped_ordered (suc place) (p ∷ m) ordered = dropped_ordered place m ordered.1
+
+-- a place behind all pairs
+pub none_there : (m : Map) (place at : ℕ) → [] ≡ drop place m → place ≤ at → drop at m ≡ []
+none_there m place at none before = drop_all at m (omega (arith, before, ap length none, length-drop place m))

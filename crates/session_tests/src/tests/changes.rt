@@ -1,9 +1,9 @@
 // Whole transactions over each session.
 use super::map_db::MapDb;
-use super::steps::{Pairs, reads};
+use super::steps::{Pairs, reads, walks};
 use base_bytes::{Bytes, NoMemory};
 use db_core::{Change, Db, DbFault, run_changes};
-use disk_kinds::MemDisk;
+use mem_devices::MemDisk;
 use flat_db::open_db;
 use std::alloc::Global;
 use std::process::Abort;
@@ -144,6 +144,7 @@ fn assert_cases<B: Db<MemDisk>>(
         let answer = make(db, disk, &changes);
         assert_eq!(rt; answer, case.answer, "{}", case.name);
         assert!(rt; reads(db, disk, case.after), "{}", case.name);
+        assert!(rt; walks(db, disk, case.after), "{}", case.name);
     }
     Ok(())
 }

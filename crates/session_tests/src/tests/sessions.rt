@@ -1,9 +1,9 @@
 // Sessions over flat text in a disk in memory, and what its file reads after them.
 use super::steps::{Answer, Pairs, Step, first_wrong};
-use base_bytes::{Damage, Flaw};
+use base_bytes::Flaw;
 use base_devices::Failed;
 use db_core::{Db, DbFault, OpenFault};
-use disk_kinds::MemDisk;
+use mem_devices::MemDisk;
 use flat_db::{check_db, create, open_db};
 use std::alloc::Global;
 use std::process::Abort;
@@ -234,7 +234,7 @@ const FAILING: &[Case] = &[
     Case {
         name: "the new file is not begun",
         main: b"a\t1\n",
-        fails: &[4],
+        fails: &[4, 5, 6, 7, 8, 9, 10, 11, 12, 13],
         script: BREAKS,
         left: b"a\t1\n",
         faults: 1,
@@ -243,7 +243,7 @@ const FAILING: &[Case] = &[
     Case {
         name: "the new file is not written",
         main: b"a\t1\n",
-        fails: &[5],
+        fails: &[5, 6, 7, 8, 9, 10, 11, 12, 13, 14],
         script: BREAKS,
         left: b"a\t1\n",
         faults: 1,
@@ -252,7 +252,7 @@ const FAILING: &[Case] = &[
     Case {
         name: "the new file is not synced",
         main: b"a\t1\n",
-        fails: &[6],
+        fails: &[6, 7, 8, 9, 10, 11, 12, 13, 14, 15],
         script: BREAKS,
         left: b"a\t1\n",
         faults: 1,
@@ -261,7 +261,7 @@ const FAILING: &[Case] = &[
     Case {
         name: "the new file is not published",
         main: b"a\t1\n",
-        fails: &[7],
+        fails: &[7, 8, 9, 10, 11, 12, 13, 14, 15, 16],
         script: BREAKS,
         left: b"a\t1\n",
         faults: 1,
@@ -328,13 +328,16 @@ fn failed_publish_leaves_one_of_two(rt: HostRuntime) -> Result<(), Fail> {
     Ok(())
 }
 
-// A file, the calls that fail, and how many pairs opening it finds, and looking through it.
-type Opening = (
-    Option<&'static [u8]>,
-    &'static [u64],
-    Result<u64, OpenFault>,
-    Result<u64, OpenFault>,
-);
+// A file that is opened, and looked through.
+struct Opening {
+    name: &'static str,
+    main: Option<&'static [u8]>,
+    /// The numbers of the calls that are to fail.
+    fails: &'static [u64],
+    /// How many pairs opening finds, and looking through.
+    opened: Result<u64, OpenFault>,
+    checked: Result<u64, OpenFault>,
+}
 
 const FAULT: Result<u64, OpenFault> = Err(OpenFault::DiskFault);
 
@@ -342,34 +345,108 @@ const ABSENT: Result<u64, OpenFault> = Err(OpenFault::Absent);
 
 const TEXT: Option<&[u8]> = Some(b"b\t1\na\t2\nb\t3");
 
-const NO_TAB: Result<u64, OpenFault> = Err(OpenFault::Damaged(Damage {
+const NO_TAB: Result<u64, OpenFault> = Err(OpenFault::Damaged {
     at: 4,
     check: Flaw::NoTab,
-}));
+});
 
-const NO_KEY: Result<u64, OpenFault> = Err(OpenFault::Damaged(Damage {
+const NO_KEY: Result<u64, OpenFault> = Err(OpenFault::Damaged {
     at: 4,
     check: Flaw::EmptyKey,
-}));
+});
 
-const NO_ESCAPE: Result<u64, OpenFault> = Err(OpenFault::Damaged(Damage {
+const NO_ESCAPE: Result<u64, OpenFault> = Err(OpenFault::Damaged {
     at: 6,
     check: Flaw::BadEscape,
-}));
+});
+
+const TEN_FROM_THE_FIRST: &[u64] = &[1, 2, 3, 4, 5, 6, 7, 8, 9, 10];
 
 const OPENINGS: &[Opening] = &[
-    (None, &[], ABSENT, ABSENT),
-    (None, &[1], FAULT, FAULT),
-    (None, &[2], ABSENT, ABSENT),
-    (TEXT, &[], Ok(2), Ok(2)),
-    (TEXT, &[1], FAULT, FAULT),
-    (TEXT, &[2], FAULT, FAULT),
-    (TEXT, &[3], FAULT, Ok(2)),
-    (TEXT, &[4], Ok(2), Ok(2)),
-    (Some(b""), &[3], Ok(0), Ok(0)),
-    (Some(b"a\t1\nabc\n"), &[], NO_TAB, NO_TAB),
-    (Some(b"a\t1\n\t1\n"), &[], NO_KEY, NO_KEY),
-    (Some(b"a\t1\nb\t\xff\n"), &[], NO_ESCAPE, NO_ESCAPE),
+    Opening {
+        name: "an absent file",
+        main: None,
+        fails: &[],
+        opened: ABSENT,
+        checked: ABSENT,
+    },
+    Opening {
+        name: "an absent file whose length is not told",
+        main: None,
+        fails: &[1],
+        opened: FAULT,
+        checked: FAULT,
+    },
+    Opening {
+        name: "an absent file needs no second call",
+        main: None,
+        fails: &[2],
+        opened: ABSENT,
+        checked: ABSENT,
+    },
+    Opening {
+        name: "lines in any order",
+        main: TEXT,
+        fails: &[],
+        opened: Ok(2),
+        checked: Ok(2),
+    },
+    Opening {
+        name: "the length is not told, nor anything behind it",
+        main: TEXT,
+        fails: TEN_FROM_THE_FIRST,
+        opened: FAULT,
+        checked: FAULT,
+    },
+    Opening {
+        name: "it is not synced, or not read",
+        main: TEXT,
+        fails: &[2],
+        opened: FAULT,
+        checked: FAULT,
+    },
+    Opening {
+        name: "opening reads in the third call",
+        main: TEXT,
+        fails: &[3],
+        opened: FAULT,
+        checked: Ok(2),
+    },
+    Opening {
+        name: "a second read would be seen",
+        main: TEXT,
+        fails: &[4],
+        opened: Ok(2),
+        checked: Ok(2),
+    },
+    Opening {
+        name: "an empty file is not read",
+        main: Some(b""),
+        fails: &[3],
+        opened: Ok(0),
+        checked: Ok(0),
+    },
+    Opening {
+        name: "a line without TAB",
+        main: Some(b"a\t1\nabc\n"),
+        fails: &[],
+        opened: NO_TAB,
+        checked: NO_TAB,
+    },
+    Opening {
+        name: "a line without a key",
+        main: Some(b"a\t1\n\t1\n"),
+        fails: &[],
+        opened: NO_KEY,
+        checked: NO_KEY,
+    },
+    Opening {
+        name: "a bad escape",
+        main: Some(b"a\t1\nb\t\xff\n"),
+        fails: &[],
+        opened: NO_ESCAPE,
+        checked: NO_ESCAPE,
+    },
 ];
 
 // How many pairs the map seen has.
@@ -384,16 +461,26 @@ fn open_count(alloc: Global, disk: &mut MemDisk) -> Result<u64, OpenFault> {
     }
 }
 
+// A call that fails is the last one, so that the count of faults is one where the disk failed, and else none.
+fn faults_of(answer: Result<u64, OpenFault>) -> u64 {
+    if answer == FAULT { 1 } else { 0 }
+}
+
 fn assert_opening(rt: &impl Abort, alloc: Global, row: &Opening) -> Result<(), Fail> {
-    let (main, fails, opened, checked) = *row;
-    let mut disk = disk_of(alloc, main, ROOM, fails)?;
-    let mut other = disk_of(alloc, main, ROOM, fails)?;
-    let counts = (open_count(alloc, &mut disk), check_db(alloc, &mut other));
-    let stays = (disk.main() == main, other.main() == main);
+    let mut disk = disk_of(alloc, row.main, ROOM, row.fails)?;
+    let mut other = disk_of(alloc, row.main, ROOM, row.fails)?;
+    let found = (open_count(alloc, &mut disk), check_db(alloc, &mut other));
+    let stays = (disk.main() == row.main, other.main() == row.main);
+    let faults = (disk.counts().faults, other.counts().faults);
     assert_eq!(rt;
-        (counts, stays),
-        ((opened, checked), (true, true)),
-        "of {main:?} with {fails:?}"
+        (found, stays, faults),
+        (
+            (row.opened, row.checked),
+            (true, true),
+            (faults_of(row.opened), faults_of(row.checked))
+        ),
+        "{}",
+        row.name
     );
     Ok(())
 }
@@ -420,37 +507,101 @@ fn file_past_the_limit_is_refused(rt: HostRuntime) -> Result<(), Fail> {
     Ok(())
 }
 
-// A file, the calls that fail, what `create` answers, and what the file then reads.
-type Creation = (
-    Option<&'static [u8]>,
-    &'static [u64],
-    Result<(), Failed>,
-    Option<&'static [u8]>,
-);
+// An empty file is made, over an older one or where there is none.
+struct Creation {
+    name: &'static str,
+    main: Option<&'static [u8]>,
+    /// The numbers of the calls that are to fail.
+    fails: &'static [u64],
+    answer: Result<(), Failed>,
+    left: Option<&'static [u8]>,
+}
 
 const CREATIONS: &[Creation] = &[
-    (None, &[], Ok(()), Some(b"")),
-    (None, &[1], Err(Failed), None),
-    (None, &[2], Err(Failed), None),
-    (None, &[3], Err(Failed), None),
-    (None, &[4], Ok(()), Some(b"")),
-    (TEXT, &[], Ok(()), Some(b"")),
-    (TEXT, &[1], Err(Failed), TEXT),
-    (TEXT, &[2], Err(Failed), TEXT),
-    (TEXT, &[3], Err(Failed), TEXT),
-    (TEXT, &[4], Ok(()), Some(b"")),
+    Creation {
+        name: "none was there",
+        main: None,
+        fails: &[],
+        answer: Ok(()),
+        left: Some(b""),
+    },
+    Creation {
+        name: "it is not begun",
+        main: None,
+        fails: TEN_FROM_THE_FIRST,
+        answer: Err(Failed),
+        left: None,
+    },
+    Creation {
+        name: "it is not synced",
+        main: None,
+        fails: &[2, 3, 4, 5],
+        answer: Err(Failed),
+        left: None,
+    },
+    Creation {
+        name: "it is not published",
+        main: None,
+        fails: &[3, 4, 5, 6],
+        answer: Err(Failed),
+        left: None,
+    },
+    Creation {
+        name: "there is no fourth call",
+        main: None,
+        fails: &[4],
+        answer: Ok(()),
+        left: Some(b""),
+    },
+    Creation {
+        name: "a file is replaced",
+        main: TEXT,
+        fails: &[],
+        answer: Ok(()),
+        left: Some(b""),
+    },
+    Creation {
+        name: "its new one is not begun",
+        main: TEXT,
+        fails: TEN_FROM_THE_FIRST,
+        answer: Err(Failed),
+        left: TEXT,
+    },
+    Creation {
+        name: "its new one is not synced",
+        main: TEXT,
+        fails: &[2, 3, 4, 5],
+        answer: Err(Failed),
+        left: TEXT,
+    },
+    Creation {
+        name: "its new one is not published",
+        main: TEXT,
+        fails: &[3, 4, 5, 6],
+        answer: Err(Failed),
+        left: TEXT,
+    },
+    Creation {
+        name: "over a file there is no fourth call",
+        main: TEXT,
+        fails: &[4],
+        answer: Ok(()),
+        left: Some(b""),
+    },
 ];
 
 #[test]
 fn create_makes_an_empty_file(rt: HostRuntime) -> Result<(), Fail> {
-    for (main, fails, answer, left) in CREATIONS {
-        let mut disk = disk_of(rt.alloc(), *main, ROOM, fails)?;
+    for row in CREATIONS {
+        let mut disk = disk_of(rt.alloc(), row.main, ROOM, row.fails)?;
         let created = create(&mut disk);
-        let is_left = disk.main() == *left;
+        let is_left = disk.main() == row.left;
+        let faults = if row.answer.is_err() { 1 } else { 0 };
         assert_eq!(rt;
-            (created, is_left),
-            (*answer, true),
-            "of {main:?} with {fails:?}"
+            (created, is_left, disk.counts().faults),
+            (row.answer, true, faults),
+            "{}",
+            row.name
         );
     }
     Ok(())

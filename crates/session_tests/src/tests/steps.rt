@@ -104,6 +104,21 @@ pub fn reads<D: Disk, B: Db<D>>(db: &B, _disk: &D, pairs: Pairs) -> bool {
     next.is_none()
 }
 
+/// A walk from the first key on gives these pairs and no other.
+pub fn walks<D: Disk, B: Db<D>>(db: &B, _disk: &D, pairs: Pairs) -> bool {
+    if db.broken() {
+        return false;
+    }
+    let mut at = db.walk_from(b"");
+    for (key, value) in pairs {
+        match db.step(at) {
+            Some(next) if next.pair.key == *key && next.pair.value == *value => at = next.next,
+            _ => return false,
+        }
+    }
+    db.step(at).is_none()
+}
+
 fn comes_next<D: Disk, B: Db<D>>(db: &B, _disk: &D, key: &[u8], from: &[u8], above: &[u8]) -> bool {
     if db.broken() {
         return false;
@@ -137,7 +152,7 @@ fn take<D: Disk, B: Db<D>>(db: &mut B, disk: &mut D, run: &[u8], step: Step) -> 
         Step::Delete(key) => delete(db, disk, key),
         Step::Commit => commit(db, disk),
         Step::Abort => abort(db, disk),
-        Step::Reads(pairs) => Ok(reads(db, disk, pairs)),
+        Step::Reads(pairs) => Ok(reads(db, disk, pairs) && walks(db, disk, pairs)),
         Step::Next(key, from, above) => Ok(comes_next(db, disk, key, from, above)),
         Step::IsLast(key) => Ok(is_last(db, disk, key)),
         Step::IsBroken => Ok(db.broken()),

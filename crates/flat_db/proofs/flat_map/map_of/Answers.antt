@@ -3,7 +3,7 @@ use Rattle.std.proofs.lemmas.List.{take_at}
 use Rattle.flat_db.specs.FlatText.{canonical_text, FlatTextOf}
 use Rattle.flat_db.specs.Entries.{pairs_of}
 use Rattle.flat_db.specs.Kept.{IsKept}
-use Rattle.flat_db.specs.declared.entries.Entry.{Entry}
+use Rattle.flat_db.specs.declared.pairs.Entry.{Entry}
 use Rattle.flat_db.proofs.Canonical.{text_is_ordered}
 use Rattle.flat_db.proofs.KeptLemmas.{read_map}
 use Rattle.flat_db.proofs.Sizes.{text_bound}

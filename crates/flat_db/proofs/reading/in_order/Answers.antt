@@ -6,7 +6,7 @@ use Rattle.std.specs.Cmp.Lexicographic.{nat_list_cmp_total}
 use Rattle.std.specs.List.{All, dedup}
 use Rattle.std.specs.List.Sorted.{IsStableBy}
 use Rattle.flat_db.specs.Entries.{part_of, pairs_of, EndsBy}
-use Rattle.flat_db.specs.declared.entries.Entry.{Entry}
+use Rattle.flat_db.specs.declared.pairs.Entry.{Entry}
 use Rattle.base_bytes.specs.OrderedMap.{IsOrderedMap}
 use Rattle.flat_db.proofs.Canonical.{put_all_ordered}
 use Rattle.flat_db.proofs.LaterWins.{lt, same, later_wins}

@@ -5,7 +5,7 @@ use Rattle.std.specs.List.{IsAllAdjacentAnswer}
 use Rattle.std.specs.Ordering.{is_lt}
 use Rattle.base_bytes.specs.OrderedMap.{IsOrderedMap, IsBelow, key_order}
 use Rattle.flat_db.specs.Entries.{part_of, pairs_of}
-use Rattle.flat_db.specs.declared.entries.Entry.{Entry}
+use Rattle.flat_db.specs.declared.pairs.Entry.{Entry}
 use Rattle.flat_db.proofs.PlaceLemmas.{is_below}
 use Rattle.flat_db.proofs.reading.keys_rise.Goals as goal
 

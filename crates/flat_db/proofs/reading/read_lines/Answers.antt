@@ -5,7 +5,7 @@ use Rattle.std.proofs.lemmas.Grind.{common_steps}
 use Rattle.base_bytes.specs.OrderedMap.{Map}
 use Rattle.flat_db.specs.FlatText.{HasLine, SaysPairs}
 use Rattle.flat_db.specs.Entries.{pair_of, pairs_of, EndsBy}
-use Rattle.flat_db.specs.declared.entries.Entry.{Entry}
+use Rattle.flat_db.specs.declared.pairs.Entry.{Entry}
 use Rattle.flat_db.proofs.LineLemmas.{pairs_below, ends_later, says_more, all_push, drop_later}
 use Rattle.flat_db.proofs.reading.read_lines.Goals as goal
 

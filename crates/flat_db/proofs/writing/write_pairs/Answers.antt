@@ -3,7 +3,7 @@ use Rattle.base_devices.specs.declared.disk.Failed.{Failed}
 use Rattle.flat_db.specs.FlatText.{canonical_text, pair_line}
 use Rattle.flat_db.specs.Entries.{part_of, pairs_of}
 use Rattle.flat_db.specs.Writing.{Gathers}
-use Rattle.flat_db.specs.declared.entries.Entry.{Entry}
+use Rattle.flat_db.specs.declared.pairs.Entry.{Entry}
 use Rattle.flat_db.proofs.Adding.{Adds, adds_then, adds_failed, gathers_then, gathers_failed}
 use Rattle.flat_db.proofs.Sizes.{text_more, text_part}
 use Rattle.flat_db.proofs.writing.write_pairs.Goals as goal

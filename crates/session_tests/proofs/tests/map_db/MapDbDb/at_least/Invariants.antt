@@ -1,6 +1,6 @@
 use Rattle.std.proofs.Common.{◌≡◌, map}
-use Rattle.db_core.specs.Sessions.{first_from}
+use Rattle.base_bytes.specs.OrderedMap.{first_from}
 use Rattle.session_tests.proofs.tests.map_db.MapDbDb.at_least.Given as goal
 
 abbrev pub invariant-loop-found : goal.invariant-loop-found
-invariant-loop-found g l = first_from (map (λ e. (e.0.items, e.1.items)) l.self.map.entries) l.key ≡ first_from (map (λ e. (e.0.items, e.1.items)) l.found-iterator) l.key
+invariant-loop-found g l = first_from (map (λ e. (e.0.items, e.1.items)) l.self.seen.entries) l.key ≡ first_from (map (λ e. (e.0.items, e.1.items)) l.found-iterator) l.key

@@ -1,21 +1,9 @@
-use Rattle.std.proofs.Common.{◌∙◌, ap, map, List, ℕ, refl, rules}
-use Rattle.base_bytes.specs.OrderedMap.{put}
+use Rattle.flat_db.proofs.SessionLemmas.{leaves_disk, makes_no_call}
 use Rattle.session_tests.specs.MemorySessions.{counting_kind}
-use Rattle.session_tests.proofs.Trees.{tree_put}
-use Rattle.session_tests.proofs.MemoryLemmas.{stored_memory}
 use Rattle.session_tests.proofs.tests.map_db.MapDbDb.store.Goals as goal
 
-pub returns-in-Ok-clause-answer : goal.returns-in-Ok-clause-answer
-returns-in-Ok-clause-answer g c =
-    let seen = map (λ e. (e.0.items, e.1.items)) c.args.self.now.map.entries in
-    record {
-      ok = search rules;
-      done = stored_memory (counting_kind 9) c.args.self.now.in_transaction seen _ _ _ c.args.self.now.has_changed (c.requires.within refl) c.args._word c.args.key.now c.args.value.now _ _
-          (ap (map (λ e. (e.0.items, e.1.items))) c.in-Ok.ensures.entries
-          ∙ tree_put c.args.self.now.map.entries c.in-Ok-Ok.key c.in-Ok-Ok.value
-          ∙ ap (λ (k : List ℕ). put seen k c.in-Ok-Ok.value.items) (c.in-Ok-Ok.ensures.items_if_clones_equal (λ x y p. p))
-          ∙ ap (λ (v : List ℕ). put seen c.args.key.now v) (c.in-Ok-Ok.ensures'.items_if_clones_equal (λ x y p. p)))
-          refl;
-      refused = tt;
-      after = tt;
-    }
+pub returns-clause-change : goal.returns-clause-change
+returns-clause-change g c = makes_no_call (counting_kind 9) _ _ _ _ _ (g.D.Disk.state c.args._disk.now) c.put_pair.result c.put_pair.ensures.answer c.put_pair.ensures.no_fault (g.met.D.Disk.is_moment _) (λ sound i left. tt)
+
+pub returns-clause-unharmed : goal.returns-clause-unharmed
+returns-clause-unharmed g c = leaves_disk c.args._disk.now c.put_pair.result

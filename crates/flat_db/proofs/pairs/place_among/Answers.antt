@@ -1,8 +1,8 @@
 use Rattle.std.proofs.Common.{◌<◌, length, arith}
 use Rattle.std.proofs.lemmas.List.{get_or_default}
 use Rattle.flat_db.proofs.PlaceLemmas.{own_place, end_place, other_place, same_part, other_part}
-use Rattle.flat_db.proofs.places.place_among.Goals as goal
-use Rattle.flat_db.proofs.places.place_among.Goals.{else-place-entries-via-then-place-entries+else-is_eq, else-place-entries-via-else-place-entries}
+use Rattle.flat_db.proofs.pairs.place_among.Goals as goal
+use Rattle.flat_db.proofs.pairs.place_among.Goals.{else-place-entries-via-then-place-entries+else-is_eq, else-place-entries-via-else-place-entries}
 
 pub returns-then-is_eq-clause-own : goal.returns-then-is_eq-clause-own
 returns-then-is_eq-clause-own c =

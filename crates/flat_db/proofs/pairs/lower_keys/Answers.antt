@@ -1,7 +1,7 @@
 use Rattle.std.proofs.Common.{rules}
 use Rattle.std.proofs.lemmas.List.Sorted.{IsPartitionPoint-from_clause}
 use Rattle.flat_db.proofs.PlaceLemmas.{goes_before, parted, place_of_point}
-use Rattle.flat_db.proofs.places.lower_keys.Goals as goal
+use Rattle.flat_db.proofs.pairs.lower_keys.Goals as goal
 
 pub returns : goal.returns
 returns c =
