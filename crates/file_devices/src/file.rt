@@ -43,7 +43,8 @@ impl<R: Files + AllocGlobal + Drop> Model for FileDisk<R> {
 
     ghost Value = { FileCounts };
 
-    ghost view = { λ d. record { faults = d.faults; written = d.written; publishes = d.publishes } };
+    ghost view = { λ d.
+        record { faults = d.faults; written = d.written; publishes = d.publishes } };
 }
 
 impl<R: Files + AllocGlobal + Drop> FileDisk<R> {
@@ -75,7 +76,8 @@ where
 
     ghost rest_same = { λ a. goes_same (file_state a) };
 
-    ghost rest_then = { λ a b c ab bc. goes_then (file_state a) (file_state b) (file_state c) (file_moment c) ab bc };
+    ghost rest_then = { λ a b c ab bc.
+        goes_then (file_state a) (file_state b) (file_state c) (file_moment c) ab bc };
 
     ghost rest_goes_on = { λ a b rest. rest };
 

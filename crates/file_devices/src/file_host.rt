@@ -76,7 +76,8 @@ where
     }
 
     fn write_at(&mut self, at: u64, bytes: &[u8]) -> Result<(), Failed>
-        ensures write { Writes at bytes.now (file_state self.old.disk) (file_state self.new.disk) result }
+        ensures write { let old = file_state self.old.disk in
+            Writes at bytes.now old (file_state self.new.disk) result }
         ensures count { self.new.disk.written ≡ raised_by (length bytes.now) self.old.disk.written }
         ensures call { DiskCall (file_state self.old.disk) (file_state self.new.disk) }
         ensures cause { HasCause self.old.disk.faults self.new.disk.faults result }
