@@ -1,339 +1,114 @@
 // Lines of words for folders of messages.
-use super::Row;
 
-pub(crate) const ROWS: [Row; 105] = [
-    // rebuilding a folder
-    ("rebuild", "reconstruct box", "reconstruct <box>"),
-    (
-        "rebuild, dry",
-        "reconstruct -n box",
-        "reconstruct <box> dry",
-    ),
-    (
-        "rebuild, quiet",
-        "reconstruct -q box",
-        "reconstruct <box> quiet",
-    ),
-    (
-        "rebuild without odd names",
-        "reconstruct -o box",
-        "reconstruct <box> skip_odd",
-    ),
-    (
-        "rebuild by force",
-        "reconstruct -G box",
-        "reconstruct <box> force",
-    ),
-    (
-        "rebuild with flags in another order",
-        "reconstruct -q -n box",
-        "reconstruct <box> dry quiet",
-    ),
-    (
-        "rebuild with flags around",
-        "reconstruct -q box -n",
-        "reconstruct <box> dry quiet",
-    ),
-    (
-        "rebuild with a bundle",
-        "reconstruct -nq box",
-        "reconstruct <box> dry quiet",
-    ),
-    (
-        "rebuild with a bundle of all flags",
-        "reconstruct box -Goqn",
-        "reconstruct <box> dry quiet skip_odd force",
-    ),
-    (
-        "rebuild with a flag twice",
-        "reconstruct -n box -n",
-        "usage",
-    ),
-    (
-        "rebuild with a flag twice in bundles",
-        "reconstruct -nq -qo box",
-        "usage",
-    ),
-    (
-        "rebuild with a flag and a value",
-        "reconstruct -q=1 box",
-        "usage",
-    ),
-    ("rebuild with a small letter", "reconstruct -g box", "usage"),
-    (
-        "rebuild behind the end of flags",
-        "reconstruct -q -- -n",
-        "reconstruct <-n> quiet",
-    ),
-    ("rebuild a dash", "reconstruct -", "reconstruct <->"),
-    ("rebuild an empty folder", "reconstruct ", "reconstruct <>"),
-    ("rebuild nothing", "reconstruct", "usage"),
-    ("rebuild with flags alone", "reconstruct -n -q", "usage"),
-    ("rebuild two folders", "reconstruct box other", "usage"),
-    ("rebuild help", "reconstruct -h", "usage"),
-    ("rebuild version", "reconstruct --version", "usage"),
-    (
-        "rebuild a folder named help",
-        "reconstruct help",
-        "reconstruct <help>",
-    ),
-    // rebuilding the folders of a list
-    (
-        "list",
-        "reconstruct -r list user.",
-        "recurse <list> <user.>",
-    ),
-    (
-        "list with flags first",
-        "reconstruct -r -n -q -o -G list user.",
-        "recurse <list> <user.> dry quiet skip_odd force",
-    ),
-    (
-        "list with a bundle",
-        "reconstruct -qr list user.",
-        "recurse <list> <user.> quiet",
-    ),
-    (
-        "list with a flag between",
-        "reconstruct -r list -n user.",
-        "recurse <list> <user.> dry",
-    ),
-    (
-        "list with its own flag between",
-        "reconstruct list -r user.",
-        "recurse <list> <user.>",
-    ),
-    (
-        "list with its own flag last",
-        "reconstruct list user. -r",
-        "recurse <list> <user.>",
-    ),
-    (
-        "list with an empty prefix",
-        "reconstruct -r list ",
-        "recurse <list> <>",
-    ),
-    (
-        "list with a prefix with a dash",
-        "reconstruct -r list -- -x",
-        "recurse <list> <-x>",
-    ),
-    ("list without a prefix", "reconstruct -r list", "usage"),
-    (
-        "list with a word too many",
-        "reconstruct -r list a b",
-        "usage",
-    ),
-    (
-        "list with its flag twice",
-        "reconstruct -r -r list user.",
-        "usage",
-    ),
-    // restoring expunged messages
-    (
-        "list what is expunged",
-        "unexpunge -l box",
-        "unexpunge <box> list",
-    ),
-    ("restore all", "unexpunge -a box", "unexpunge <box> all"),
-    (
-        "restore some",
-        "unexpunge -u box 9 4 4",
-        "unexpunge <box> uids 9 4 4",
-    ),
-    (
-        "restore one",
-        "unexpunge -u box 1",
-        "unexpunge <box> uids 1",
-    ),
-    (
-        "restore with the flag behind the folder",
-        "unexpunge box -u 4",
-        "unexpunge <box> uids 4",
-    ),
-    (
-        "restore with the flag last",
-        "unexpunge box 4 5 -u",
-        "unexpunge <box> uids 4 5",
-    ),
-    (
-        "restore with the flag between uids",
-        "unexpunge box 4 -u 5",
-        "unexpunge <box> uids 4 5",
-    ),
-    (
-        "restore behind the end of flags",
-        "unexpunge -u -- -box 4",
-        "unexpunge <-box> uids 4",
-    ),
-    ("restore without a flag", "unexpunge box", "usage"),
-    ("restore uids without a flag", "unexpunge box 4", "usage"),
-    ("restore without a folder", "unexpunge -a", "usage"),
-    ("restore with two flags", "unexpunge -l -a box", "usage"),
-    ("restore with a bundle", "unexpunge -la box", "usage"),
-    (
-        "restore with all three flags",
-        "unexpunge -lau box 4",
-        "usage",
-    ),
-    (
-        "restore with a flag twice",
-        "unexpunge -u -u box 4",
-        "usage",
-    ),
-    ("restore without uids", "unexpunge -u box", "usage"),
-    ("list with uids", "unexpunge -l box 4", "usage"),
-    ("restore all with uids", "unexpunge -a box 4", "usage"),
-    (
-        "restore with uids before the folder",
-        "unexpunge -u 4 box",
-        "usage",
-    ),
-    ("uid 0", "unexpunge -u box 0", "usage"),
-    ("a uid with a leading zero", "unexpunge -u box 04", "usage"),
-    ("a uid with a sign", "unexpunge -u box +4", "usage"),
-    (
-        "the greatest uid",
-        "unexpunge -u box 4294967295",
-        "unexpunge <box> uids 4294967295",
-    ),
-    (
-        "a uid past the greatest",
-        "unexpunge -u box 4294967296",
-        "usage",
-    ),
-    (
-        "a uid of eleven digits",
-        "unexpunge -u box 10000000000",
-        "usage",
-    ),
-    ("an empty uid", "unexpunge -u box ", "usage"),
-    (
-        "a wrong uid among right ones",
-        "unexpunge -u box 1 2 x 3",
-        "usage",
-    ),
-    ("a negative uid", "unexpunge -u box -4", "usage"),
-    // purging
-    ("by days", "ipurge -d 1 box", "purge <box> Days 1"),
-    ("by bytes", "ipurge -b 2 box", "purge <box> Bytes 2"),
-    ("by 1,024 bytes", "ipurge -k 3 box", "purge <box> Kilo 3"),
-    (
-        "by 1,048,576 bytes",
-        "ipurge -m 4 box",
-        "purge <box> Mega 4",
-    ),
-    (
-        "purge past flagged",
-        "ipurge -s -d 1 box",
-        "purge <box> Days 1 skip_flagged",
-    ),
-    (
-        "purge what equals",
-        "ipurge -x -d 1 box",
-        "purge <box> Days 1 exact",
-    ),
-    (
-        "purge what is less",
-        "ipurge -i -d 3 box",
-        "purge <box> Days 3 invert",
-    ),
-    (
-        "purge with all flags",
-        "ipurge -isx -b 7 box",
-        "purge <box> Bytes 7 invert exact skip_flagged",
-    ),
-    (
-        "purge with the test last",
-        "ipurge box -d 1",
-        "purge <box> Days 1",
-    ),
-    (
-        "purge with the number attached",
-        "ipurge -d5 box",
-        "purge <box> Days 5",
-    ),
-    (
-        "purge with an equals sign",
-        "ipurge -d=5 box",
-        "purge <box> Days 5",
-    ),
-    (
-        "purge with a bundle and its number",
-        "ipurge -id5 box",
-        "purge <box> Days 5 invert",
-    ),
-    (
-        "purge with a bundle before the number",
-        "ipurge -sk 5 box",
-        "purge <box> Kilo 5 skip_flagged",
-    ),
-    ("purge by nothing", "ipurge box", "usage"),
-    ("purge by flags alone", "ipurge -i -x box", "usage"),
-    ("purge by two tests", "ipurge -d 1 -b 1 box", "usage"),
-    ("purge by one test twice", "ipurge -d 1 -d 1 box", "usage"),
-    (
-        "purge by all tests",
-        "ipurge -d 1 -b 1 -k 1 -m 1 box",
-        "usage",
-    ),
-    ("purge with a flag twice", "ipurge -i -i -d 1 box", "usage"),
-    ("purge without a number", "ipurge box -d", "usage"),
-    ("purge with an empty number", "ipurge -d  box", "usage"),
-    ("purge with a negative number", "ipurge -d -5 box", "usage"),
-    ("purge with a sign", "ipurge -d +5 box", "usage"),
-    ("purge with a letter", "ipurge -d 5d box", "usage"),
-    ("purge by 0", "ipurge -d 0 box", "purge <box> Days 0"),
-    (
-        "a number of ten digits",
-        "ipurge -d 0000000001 box",
-        "purge <box> Days 1",
-    ),
-    (
-        "a number of eleven digits",
-        "ipurge -d 00000000001 box",
-        "usage",
-    ),
-    (
-        "the greatest number",
-        "ipurge -b 4294967295 box",
-        "purge <box> Bytes 4294967295",
-    ),
-    (
-        "a number past the greatest",
-        "ipurge -b 4294967296 box",
-        "usage",
-    ),
-    ("purge without a folder", "ipurge -d 1", "usage"),
-    ("purge two folders", "ipurge -d 1 box other", "usage"),
-    (
-        "purge behind the end of flags",
-        "ipurge -d 1 -- -d",
-        "purge <-d> Days 1",
-    ),
-    ("purge help", "ipurge --help", "usage"),
-    // checking
-    ("check", "chk_cyrus -M box", "check <box>"),
-    (
-        "check with the flag last",
-        "chk_cyrus box -M",
-        "check <box>",
-    ),
-    (
-        "check behind the end of flags",
-        "chk_cyrus -M -- -box",
-        "check <-box>",
-    ),
-    ("check without the flag", "chk_cyrus box", "usage"),
-    (
-        "check with the flag behind the end of flags",
-        "chk_cyrus -- -M",
-        "usage",
-    ),
-    ("check with a small letter", "chk_cyrus -m box", "usage"),
-    ("check with the folder attached", "chk_cyrus -Mbox", "usage"),
-    ("check with the flag twice", "chk_cyrus -M -M box", "usage"),
-    ("check without a folder", "chk_cyrus -M", "usage"),
-    ("check two folders", "chk_cyrus -M box other", "usage"),
-    ("check version", "chk_cyrus -V", "usage"),
-];
+pub(crate) const ROWS: &str = "\
+# rebuilding a folder
+rebuild: reconstruct box => reconstruct <box>
+rebuild, dry: reconstruct -n box => reconstruct <box> dry
+rebuild, quiet: reconstruct -q box => reconstruct <box> quiet
+rebuild without odd names: reconstruct -o box => reconstruct <box> skip_odd
+rebuild by force: reconstruct -G box => reconstruct <box> force
+rebuild with flags in another order: reconstruct -q -n box => reconstruct <box> dry quiet
+rebuild with flags around: reconstruct -q box -n => reconstruct <box> dry quiet
+rebuild with a bundle: reconstruct -nq box => reconstruct <box> dry quiet
+rebuild with a bundle of all flags: reconstruct box -Goqn => reconstruct <box> dry quiet skip_odd force
+rebuild with a flag twice: reconstruct -n box -n => usage
+rebuild with a flag twice in bundles: reconstruct -nq -qo box => usage
+rebuild with a flag and a value: reconstruct -q=1 box => usage
+rebuild with a small letter: reconstruct -g box => usage
+rebuild behind the end of flags: reconstruct -q -- -n => reconstruct <-n> quiet
+rebuild a dash: reconstruct - => reconstruct <->
+rebuild an empty folder: reconstruct  => reconstruct <>
+rebuild nothing: reconstruct => usage
+rebuild with flags alone: reconstruct -n -q => usage
+rebuild two folders: reconstruct box other => usage
+rebuild help: reconstruct -h => usage
+rebuild version: reconstruct --version => usage
+rebuild a folder named help: reconstruct help => reconstruct <help>
+# rebuilding the folders of a list
+list: reconstruct -r list user. => recurse <list> <user.>
+list with flags first: reconstruct -r -n -q -o -G list user. => recurse <list> <user.> dry quiet skip_odd force
+list with a bundle: reconstruct -qr list user. => recurse <list> <user.> quiet
+list with a flag between: reconstruct -r list -n user. => recurse <list> <user.> dry
+list with its own flag between: reconstruct list -r user. => recurse <list> <user.>
+list with its own flag last: reconstruct list user. -r => recurse <list> <user.>
+list with an empty prefix: reconstruct -r list  => recurse <list> <>
+list with a prefix with a dash: reconstruct -r list -- -x => recurse <list> <-x>
+list without a prefix: reconstruct -r list => usage
+list with a word too many: reconstruct -r list a b => usage
+list with its flag twice: reconstruct -r -r list user. => usage
+# restoring expunged messages
+list what is expunged: unexpunge -l box => unexpunge <box> list
+restore all: unexpunge -a box => unexpunge <box> all
+restore some: unexpunge -u box 9 4 4 => unexpunge <box> uids 9 4 4
+restore one: unexpunge -u box 1 => unexpunge <box> uids 1
+restore with the flag behind the folder: unexpunge box -u 4 => unexpunge <box> uids 4
+restore with the flag last: unexpunge box 4 5 -u => unexpunge <box> uids 4 5
+restore with the flag between uids: unexpunge box 4 -u 5 => unexpunge <box> uids 4 5
+restore behind the end of flags: unexpunge -u -- -box 4 => unexpunge <-box> uids 4
+restore without a flag: unexpunge box => usage
+restore uids without a flag: unexpunge box 4 => usage
+restore without a folder: unexpunge -a => usage
+restore with two flags: unexpunge -l -a box => usage
+restore with a bundle: unexpunge -la box => usage
+restore with all three flags: unexpunge -lau box 4 => usage
+restore with a flag twice: unexpunge -u -u box 4 => usage
+restore without uids: unexpunge -u box => usage
+list with uids: unexpunge -l box 4 => usage
+restore all with uids: unexpunge -a box 4 => usage
+restore with uids before the folder: unexpunge -u 4 box => usage
+uid 0: unexpunge -u box 0 => usage
+a uid with a leading zero: unexpunge -u box 04 => usage
+a uid with a sign: unexpunge -u box +4 => usage
+the greatest uid: unexpunge -u box 4294967295 => unexpunge <box> uids 4294967295
+a uid past the greatest: unexpunge -u box 4294967296 => usage
+a uid of eleven digits: unexpunge -u box 10000000000 => usage
+an empty uid: unexpunge -u box  => usage
+a wrong uid among right ones: unexpunge -u box 1 2 x 3 => usage
+a negative uid: unexpunge -u box -4 => usage
+# purging
+by days: ipurge -d 1 box => purge <box> Days 1
+by bytes: ipurge -b 2 box => purge <box> Bytes 2
+by 1,024 bytes: ipurge -k 3 box => purge <box> Kilo 3
+by 1,048,576 bytes: ipurge -m 4 box => purge <box> Mega 4
+purge past flagged: ipurge -s -d 1 box => purge <box> Days 1 skip_flagged
+purge what equals: ipurge -x -d 1 box => purge <box> Days 1 exact
+purge what is less: ipurge -i -d 3 box => purge <box> Days 3 invert
+purge with all flags: ipurge -isx -b 7 box => purge <box> Bytes 7 invert exact skip_flagged
+purge with the test last: ipurge box -d 1 => purge <box> Days 1
+purge with the number attached: ipurge -d5 box => purge <box> Days 5
+purge with an equals sign: ipurge -d=5 box => purge <box> Days 5
+purge with a bundle and its number: ipurge -id5 box => purge <box> Days 5 invert
+purge with a bundle before the number: ipurge -sk 5 box => purge <box> Kilo 5 skip_flagged
+purge by nothing: ipurge box => usage
+purge by flags alone: ipurge -i -x box => usage
+purge by two tests: ipurge -d 1 -b 1 box => usage
+purge by one test twice: ipurge -d 1 -d 1 box => usage
+purge by all tests: ipurge -d 1 -b 1 -k 1 -m 1 box => usage
+purge with a flag twice: ipurge -i -i -d 1 box => usage
+purge without a number: ipurge box -d => usage
+purge with an empty number: ipurge -d  box => usage
+purge with a negative number: ipurge -d -5 box => usage
+purge with a sign: ipurge -d +5 box => usage
+purge with a letter: ipurge -d 5d box => usage
+purge by 0: ipurge -d 0 box => purge <box> Days 0
+a number of ten digits: ipurge -d 0000000001 box => purge <box> Days 1
+a number of eleven digits: ipurge -d 00000000001 box => usage
+the greatest number: ipurge -b 4294967295 box => purge <box> Bytes 4294967295
+a number past the greatest: ipurge -b 4294967296 box => usage
+purge without a folder: ipurge -d 1 => usage
+purge two folders: ipurge -d 1 box other => usage
+purge behind the end of flags: ipurge -d 1 -- -d => purge <-d> Days 1
+purge help: ipurge --help => usage
+# checking
+check: chk_cyrus -M box => check <box>
+check with the flag last: chk_cyrus box -M => check <box>
+check behind the end of flags: chk_cyrus -M -- -box => check <-box>
+check without the flag: chk_cyrus box => usage
+check with the flag behind the end of flags: chk_cyrus -- -M => usage
+check with a small letter: chk_cyrus -m box => usage
+check with the folder attached: chk_cyrus -Mbox => usage
+check with the flag twice: chk_cyrus -M -M box => usage
+check without a folder: chk_cyrus -M => usage
+check two folders: chk_cyrus -M box other => usage
+check version: chk_cyrus -V => usage
+";
