@@ -1,0 +1,2 @@
+pub mod DateGrammar
+pub mod Names
