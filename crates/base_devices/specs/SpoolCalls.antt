@@ -1,6 +1,7 @@
 -- What a folder of message files holds, and what the calls of a spool do.
 use Rattle.std.specs.Prelude.{◌≡◌, ◌≢◌, ℕ, ◌+◌, ◌<◌, ◌≤◌, List, map, length, take, drop, find, Option, None, Some, nat_eq, slice_get}
 use Rattle.std.specs.Cmp.Lexicographic.{pointwise}
+use Rattle.std.specs.Option.{option_map}
 
 -- a file: its name, its time in seconds since 1970, and its bytes
 pub record MessageFile : Type 0 where
@@ -44,3 +45,11 @@ pub record ReadsFrom (bytes : List ℕ) (at : ℕ) (into : List ℕ) (count : �
   pub within : count ≤ length (drop at bytes)
   pub read : take count into ≡ take count (drop at bytes)
   pub some : 0 < length into → 0 < length (drop at bytes) → 0 < count
+
+-- the files that a spool shows
+abbrev pub shown_files : SpoolState → Option (List MessageFile)
+shown_files s = option_map (λ (folder : Folder). folder.files) s.folder
+
+-- no name was given yet
+abbrev pub GaveNoName : SpoolState → Type 0
+GaveNoName s = (folder : Folder) → s.folder ≡ Some folder → folder.given ≡ 0

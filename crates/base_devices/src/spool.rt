@@ -1,7 +1,7 @@
 // A folder of message files.
 ghost use Rattle.std.specs.Prelude.{◌≡◌, ◌≤◌, IfOk, OnErr, IfSome, ◌↔◌, IsSome, Some, length};
 ghost use Rattle.base_devices.specs.Causes.{HasCause};
-ghost use Rattle.base_devices.specs.SpoolCalls.{MessageFile, Folder, SpoolState, HasDistinctNames, HasFile, GivesName, ReadsFrom};
+ghost use Rattle.base_devices.specs.SpoolCalls.{MessageFile, Folder, SpoolState, HasDistinctNames, HasFile, GivesName, ReadsFrom, shown_files};
 
 use crate::Failed;
 use arrayvec::ArrayString;
@@ -61,6 +61,7 @@ pub trait Spool {
         ensures name { IfOk result (λ name. (folder : Folder) →
             (state self.old).folder ≡ Some folder → GivesName folder name (state self.new).folder) }
         ensures failed { OnErr result ((state self.new).folder ≡ (state self.old).folder) }
+        ensures files { shown_files (state self.new) ≡ shown_files (state self.old) }
         ensures cause { HasCause (state self.old).faults (state self.new).faults result }
         ensures rest { spool_rest self.old self.new };
 

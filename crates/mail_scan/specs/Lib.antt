@@ -1,2 +1,3 @@
 pub mod DateGrammar
+pub mod Listing
 pub mod Names

@@ -133,6 +133,7 @@ impl Spool for MemSpool {
     fn next_name(&mut self) -> Result<Option<Name>, Failed>
         ensures name { IfOk result (λ name. GivesName (mem_folder self.old) name (Some (mem_folder self.new))) }
         ensures failed { OnErr result (mem_folder self.new ≡ mem_folder self.old) }
+        ensures files { (mem_folder self.new).files ≡ (mem_folder self.old).files }
         ensures call { CountsSpoolCall self.old self.new result }
     {
         self.count_call()?;
