@@ -1,3 +1,5 @@
 mod DateLemmas
+mod FieldLemmas
+mod HeaderLemmas
 mod ListingLemmas
 mod NameLemmas

@@ -72,10 +72,10 @@ before_dot name uid is =
     ap (digits_value 10) before ∙ digits_value-decimal own uid small
 
 -- two texts are the same where the test says so
-same_text : (a b : List ℕ) → pointwise nat_eq a b ≡ true → a ≡ b
+pub same_text : (a b : List ℕ) → pointwise nat_eq a b ≡ true → a ≡ b
 same_text a b same = (slice_eq-Decides Decides-eqb a b (pointwise nat_eq a b) refl).0 same
 
-text_same : (a b : List ℕ) → a ≡ b → pointwise nat_eq a b ≡ true
+pub text_same : (a b : List ℕ) → a ≡ b → pointwise nat_eq a b ≡ true
 text_same a b same = (slice_eq-Decides Decides-eqb a b (pointwise nat_eq a b) refl).1 same
 
 both_true : (a b : Bool) → (a && b) ≡ true → (a ≡ true) × (b ≡ true)

@@ -30,11 +30,18 @@ pub fn date_seconds(text: &[u8]) -> Option<u32>
     u32::try_from(day as i64 * SECONDS_A_DAY + time as i64).ok()
 }
 
+// A space or a TAB.
+pub(crate) fn is_space(byte: u8) -> bool
+    ensures { result ≡ is_blank byte }
+{
+    byte == b' ' || byte == b'\t'
+}
+
 fn blank_count(text: &[u8]) -> usize
     ensures count { result ≡ prefix_len is_blank text.now }
     ensures within { result ≤ length text.now }
 {
-    text.iter().take_while(|b| **b == b' ' || **b == b'\t').count()
+    text.iter().take_while(|byte| is_space(**byte)).count()
 }
 
 fn skip_blanks(text: &[u8]) -> &[u8]
@@ -283,7 +290,7 @@ fn ends_there(text: &[u8]) -> bool
     ensures { result ≡ is_done text.now }
 {
     match text {
-        [first, ..] => *first == b' ' || *first == b'\t',
+        [first, ..] => is_space(*first),
         [] => true,
     }
 }
