@@ -1,5 +1,5 @@
 -- What the parts of a date say where the parts before them are known.
-use Rattle.std.proofs.Common.{◌≡◌, ℕ, ◌+◌, ◌<◌, ◌≤◌, true, nat_abs, List, Option, Some, None, Result, Ok, Err, nat_eq, ℤ, pos, negsuc, neg_ℤ, ◌+ℤ◌, ◌*ℤ◌, ◌≤ℤ◌, w32, w64, refl, sym, ap, subst, ◌∙◌, arith, rules}
+use Rattle.std.proofs.Common.{◌≡◌, ℕ, ◌+◌, true, nat_abs, List, Some, None, Result, Ok, Err, nat_eq, ℤ, pos, negsuc, neg_ℤ, ◌+ℤ◌, ◌*ℤ◌, ◌≤ℤ◌, w32, w64, refl, ap, subst, ◌∙◌, arith}
 use Rattle.std.specs.Result.{IfOk, OkIff, result_ok}
 use Rattle.std.specs.Int.{FitsUnsignedBits}
 use Rattle.std.proofs.lemmas.Bool.Decides.{nat_tests}

@@ -1,17 +1,17 @@
 -- How a header reads on in the search for its Date field.
-use Rattle.std.proofs.Common.{◌≡◌, ◌≢◌, ℕ, zero, suc, ◌==◌, ◌+◌, ◌<◌, ◌≤◌, nat_eq, Bool, true, false, not, ◌&&◌, List, [], ◌∷◌, ◌++◌, map, take, drop, length, cond, get_or, codes, Option, None, Some, refl, sym, ap, subst, ◌∙◌, arith, append_assoc, take_at, length-append, length-take, ◌↔◌, Result, Ok, Err, IsOk, OnOk, OnErr}
+use Rattle.std.proofs.Common.{◌≡◌, ◌≢◌, ℕ, zero, suc, ◌==◌, ◌+◌, ◌<◌, nat_eq, Bool, true, false, not, ◌&&◌, List, [], ◌∷◌, ◌++◌, map, take, drop, length, cond, get_or, codes, Option, None, Some, refl, sym, ap, ◌∙◌, arith, append_assoc, take_at, length-append, length-take, ◌↔◌, Result, Ok, Err, IsOk, OnOk, OnErr}
 use Rattle.std.proofs.lemmas.List.{take_all, append-nil, drop_at, length-map, map-append, take_more}
 use Rattle.std.specs.Cmp.Lexicographic.{pointwise, unequal}
 use Rattle.arrayvec.specs.ArrayVec.{ArrayVec}
 use Rattle.std.specs.Char.{to_ascii_lowercase}
 use Rattle.std.specs.List.{list_all}
-use Rattle.std.proofs.lemmas.Bool.Decides.{eqb_tells}
-use Rattle.mail_scan.specs.DateGrammar.{is_blank}
-use Rattle.mail_scan.specs.MessageText.{begins_with, begins_date, begins_blank, field_value, date_value_from, date_value}
+use Rattle.mail_scan.specs.DateGrammar.{is_blank, date_seconds_of}
+use Rattle.std.specs.Option.{option_and_then}
+use Rattle.mail_scan.specs.MessageText.{begins_date, begins_blank, field_value, date_value_from, date_value}
 use Rattle.mail_scan.specs.FieldState.{IsDateName, ReadsLine, ReadsOn}
-use Rattle.mail_scan.specs.declared.field_state.FieldState.TheVariants.{Name, InLine, Value, ValueCr, ValueLf, Done}
+use Rattle.mail_scan.specs.declared.field_state.FieldState.TheVariants.{Name, Value, ValueCr, ValueLf, Done}
 use Rattle.mail_scan.proofs.HeaderLemmas.{differs}
-use Rattle.mail_scan.proofs.NameLemmas.{same_text, text_same}
+use Rattle.mail_scan.proofs.NameLemmas.{text_same}
 
 -- ---- the bytes that are kept
 
@@ -201,10 +201,14 @@ longer_name line byte size name same =
     map-append to_ascii_lowercase line (byte ∷ []) ∙ ap (λ l. l ++ to_ascii_lowercase byte ∷ []) name.spelled ∙ ap (λ b. take size (codes "date:") ++ b ∷ []) same ∙ sym (take_more (codes "date:") size 0 name.some_missing)
 
 pub reads_name : (header line : List ℕ) (byte size : ℕ) → IsDateName line size → ReadsLine line header → to_ascii_lowercase byte ≡ get_or (codes "date:") size 0 → size + 1 < 5 → ReadsOn (Name (size + 1)) [] (header ++ byte ∷ [])
-reads_name header line byte size name reads same short =
-    (refl, (line ++ byte ∷ [],
+reads_name header line byte size name reads same short = (
+  refl,
+  (
+    line ++ byte ∷ [],
     record { some_missing = short; spelled = longer_name line byte size name same; whole = omega (arith, length-append line (byte ∷ []), name.whole) },
-    λ rest. one_more header rest byte ∙ reads (byte ∷ rest) ∙ ap (date_value_from true) (sym (append_assoc line (byte ∷ []) rest))))
+    λ rest. one_more header rest byte ∙ reads (byte ∷ rest) ∙ ap (date_value_from true) (sym (append_assoc line (byte ∷ []) rest)),
+  ),
+)
 
 pub reads_whole_name : (header line : List ℕ) (byte size : ℕ) → IsDateName line size → ReadsLine line header → to_ascii_lowercase byte ≡ get_or (codes "date:") size 0 → size ≡ 4 → ReadsOn Value [] (header ++ byte ∷ [])
 reads_whole_name header line byte size name reads same four rest =
@@ -213,3 +217,7 @@ reads_whole_name header line byte size name reads same four rest =
 
 pub reads_no_name : (header line : List ℕ) (byte size : ℕ) → IsDateName line size → ReadsLine line header → to_ascii_lowercase byte ≢ get_or (codes "date:") size 0 → (rest : List ℕ) → date_value (header ++ byte ∷ rest) ≡ date_value_from (byte == 10) rest
 reads_no_name header line byte size name reads other rest = reads (byte ∷ rest) ∙ no_name line rest byte size name other
+
+-- the date of a value of which the front is kept
+pub date_is : (date : Option ℕ) (kept value header : List ℕ) → date ≡ date_seconds_of kept → kept ≡ take 128 value → date_value header ≡ Some value → date ≡ option_and_then (λ v. date_seconds_of (take 128 v)) (date_value header)
+date_is date kept value header is front there = is ∙ ap date_seconds_of front ∙ ap (option_and_then (λ v. date_seconds_of (take 128 v))) (sym there)

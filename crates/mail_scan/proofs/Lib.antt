@@ -1,4 +1,5 @@
 mod DateLemmas
+mod FactLemmas
 mod FieldLemmas
 mod HeaderLemmas
 mod ListingLemmas

@@ -126,8 +126,8 @@ clock_of text = do
   minute ← two_digits minute_text
   second ← second_of minute.1
   if nat_le hour.0 23 && nat_le minute.0 59 && nat_le second.0 60
-    then Some (hour.0 * 3600 + minute.0 * 60 + min second.0 59, second.1)
-    else None
+      then Some (hour.0 * 3600 + minute.0 * 60 + min second.0 59, second.1)
+      else None
 
 -- the hours and minutes of a zone, in seconds
 unfoldable pub zone_shift : List ℕ → Part ℕ
@@ -135,8 +135,8 @@ zone_shift text = do
   hours ← two_digits text
   minutes ← two_digits hours.1
   if nat_le hours.0 23 && nat_le minutes.0 59
-    then Some (hours.0 * 3600 + minutes.0 * 60, minutes.1)
-    else None
+      then Some (hours.0 * 3600 + minutes.0 * 60, minutes.1)
+      else None
 
 -- UT, letters in either case
 unfoldable pub behind_ut : List ℕ → Option (List ℕ)

@@ -1,7 +1,6 @@
 -- What is known of a message once some of its bytes were read, and once all were.
-use Rattle.std.specs.Prelude.{◌≡◌, ◌⊎◌, ℕ, ◌<◌, ◌≤◌, List, [], ◌∷◌, ◌++◌, length, drop, count_by, Option, None, Some}
+use Rattle.std.specs.Prelude.{◌≡◌, ◌⊎◌, ℕ, ◌≤◌, List, [], ◌++◌, length, drop, Option, None, Some}
 use Rattle.sha1.specs.Sha1.{Holds, sha1}
-use Rattle.base_devices.specs.SpoolCalls.{MessageFile}
 use Rattle.mail_scan.specs.declared.facts.Facts.{Facts}
 use Rattle.mail_scan.specs.declared.facts.Scanned.{Scanned}
 use Rattle.mail_scan.specs.declared.header.HeaderState.TheVariants.{Ended}

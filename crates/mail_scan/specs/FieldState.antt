@@ -1,5 +1,5 @@
 -- Where in the search for a Date field the bytes read so far end.
-use Rattle.std.specs.Prelude.{◌≡◌, ◌<◌, ℕ, ◌==◌, Bool, true, false, List, [], ◌∷◌, ◌++◌, map, take, length, codes, Option, None, Some, if◌then◌else◌}
+use Rattle.std.specs.Prelude.{◌≡◌, ◌<◌, ℕ, true, false, List, [], ◌∷◌, ◌++◌, map, take, length, codes, Some, if◌then◌else◌}
 use Rattle.std.specs.Char.{to_ascii_lowercase}
 use Rattle.mail_scan.specs.declared.field_state.FieldState.{FieldState}
 use Rattle.mail_scan.specs.declared.field_state.FieldState.TheVariants.{Name, InLine, Value, ValueCr, ValueLf, Done}

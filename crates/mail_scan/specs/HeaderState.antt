@@ -1,5 +1,5 @@
 -- Where in a header the bytes read so far end.
-use Rattle.std.specs.Prelude.{ℕ, ◌==◌, Bool, true, false, List, [], ◌∷◌, if◌then◌else◌}
+use Rattle.std.specs.Prelude.{ℕ, true, false, List, [], ◌∷◌, if◌then◌else◌}
 use Rattle.mail_scan.specs.declared.header.HeaderState.{HeaderState}
 use Rattle.mail_scan.specs.declared.header.HeaderState.TheVariants.{LineStart, Cr, InLine, Ended}
 use Rattle.mail_scan.specs.MessageText.{begins_with, header_from}

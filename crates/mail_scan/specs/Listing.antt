@@ -5,7 +5,7 @@ use Rattle.std.specs.List.{starts_with}
 use Rattle.std.specs.List.Sorted.{IsNonDecreasingBy, IsSorted}
 use Rattle.std.specs.Str.Parse.{digits_value}
 use Rattle.base_bytes.specs.OrderedMap.{key_order}
-use Rattle.base_devices.specs.SpoolCalls.{MessageFile, Folder, names_of}
+use Rattle.base_devices.specs.SpoolCalls.{Folder, names_of}
 use Rattle.mail_scan.specs.declared.fault.ScanFault.{ScanFault}
 use Rattle.mail_scan.specs.declared.fault.ScanFault.TheVariants.{SpoolFault, TooMany, NoMemory}
 use Rattle.mail_scan.specs.Names.{IsMessageName}

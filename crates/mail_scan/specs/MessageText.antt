@@ -1,5 +1,5 @@
 -- What stands in the bytes of a message: its header, its lines, and its date.
-use Rattle.std.specs.Prelude.{ℕ, ◌==◌, Bool, true, false, ◌&&◌, ◌||◌, List, [], ◌∷◌, map, take, drop, length, count_by, nat_eq, codes, Option, None, Some, option_and_then, if◌then◌else◌}
+use Rattle.std.specs.Prelude.{ℕ, ◌==◌, Bool, true, false, ◌&&◌, List, [], ◌∷◌, map, take, drop, count_by, nat_eq, codes, Option, None, Some, option_and_then, if◌then◌else◌}
 use Rattle.std.specs.Char.{to_ascii_lowercase}
 use Rattle.std.specs.Cmp.Lexicographic.{pointwise}
 use Rattle.mail_scan.specs.DateGrammar.{is_blank, date_seconds_of}

@@ -100,8 +100,7 @@ fn skip_day_name(text: &[u8]) -> &[u8]
 {
     match text {
         [a, b, c, b',', rest @ ..]
-            if a.is_ascii_alphabetic() && b.is_ascii_alphabetic() && c.is_ascii_alphabetic() =>
-        {
+            if a.is_ascii_alphabetic() && b.is_ascii_alphabetic() && c.is_ascii_alphabetic() => {
             skip_blanks(rest)
         }
         _ => text,

@@ -83,7 +83,14 @@ impl Facts {
     pub(crate) fn finish(self, time: u64) -> Option<Scanned>
         ensures { (read : List ℕ) → KnowsFacts read self → IsScan read time result }
     {
-        let Facts { digest, size, state: _, header_size, lines, date } = self;
+        let Facts {
+            digest,
+            size,
+            state: _,
+            header_size,
+            lines,
+            date,
+        } = self;
         let date = date.date();
         let digest = digest.finalize();
         if size == 0 || size > SIZE_LIMIT {

@@ -28,7 +28,11 @@ pub(crate) fn behind_name(size: usize, byte: u8) -> FieldState
         ReadsOn result [] (header ++ byte ∷ []) }
 {
     if size < 5 && byte.to_ascii_lowercase() == DATE_NAME[size] {
-        if size == 4 { FieldState::Value } else { FieldState::Name(size + 1) }
+        if size == 4 {
+            FieldState::Value
+        } else {
+            FieldState::Name(size + 1)
+        }
     } else {
         behind_other(byte)
     }
@@ -39,5 +43,9 @@ pub(crate) fn behind_other(byte: u8) -> FieldState
         ((rest : List ℕ) → date_value (header ++ byte ∷ rest) ≡ date_value_from (byte == 10) rest) →
         ReadsOn result [] (header ++ byte ∷ []) }
 {
-    if byte == b'\n' { FieldState::Name(0) } else { FieldState::InLine }
+    if byte == b'\n' {
+        FieldState::Name(0)
+    } else {
+        FieldState::InLine
+    }
 }

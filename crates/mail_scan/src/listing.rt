@@ -80,8 +80,10 @@ impl Listing {
         ensures same { (given : List (List ℕ)) → SortsOut given self.old → SortsOut given self.new }
     {
         self.messages.sort_unstable_by_key(|name| sort_key(name));
-        self.odd
-            .sort_unstable_by(|a, b| compare_keys(a.as_str().as_bytes(), b.as_str().as_bytes()));
+        self.odd.sort_unstable_by(|a, b| compare_keys(
+            a.as_str().as_bytes(),
+            b.as_str().as_bytes(),
+        ));
     }
 }
 

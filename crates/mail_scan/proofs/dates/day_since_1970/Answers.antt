@@ -1,6 +1,5 @@
-use Rattle.std.proofs.Common.{◌≡◌, Some, ap, sym, ◌∙◌, arith, rules}
+use Rattle.std.proofs.Common.{Some, ap, sym, ◌∙◌, arith}
 use Rattle.std.proofs.lemmas.Int.{ints}
-use Rattle.jiff_core.specs.Date.{epoch_day, IsYmd}
 use Rattle.mail_scan.proofs.DateLemmas.{ok_holds, day_number-some}
 use Rattle.mail_scan.proofs.dates.day_since_1970.Goals as goal
 

@@ -1,9 +1,9 @@
-use Rattle.std.proofs.Common.{◌≡◌, ◌∙◌, sym, ap, nat_eq, rules, tests, arith}
+use Rattle.std.proofs.Common.{◌≡◌, ◌∙◌, sym, nat_eq, rules, tests}
 use Rattle.std.proofs.lemmas.Iterator.{YieldsList-from_slice}
 use Rattle.std.proofs.lemmas.Iterator.Search.{position_from_yields_List}
 use Rattle.std.specs.Cmp.Lexicographic.{pointwise}
 use Rattle.std.specs.List.{position}
-use Rattle.mail_scan.specs.DateGrammar.{month_of, month_names}
+use Rattle.mail_scan.specs.DateGrammar.{month_names}
 use Rattle.mail_scan.proofs.DateLemmas.{month_of-none, month_of-some}
 use Rattle.mail_scan.proofs.dates.read_month.Goals as goal
 

@@ -1,4 +1,4 @@
-use Rattle.std.proofs.Common.{ap, sym, ◌∙◌, rules, arith}
+use Rattle.std.proofs.Common.{sym, ◌∙◌, arith}
 use Rattle.mail_scan.proofs.FieldLemmas.{reads_name, reads_whole_name, reads_no_name}
 use Rattle.mail_scan.proofs.field_state.behind_name.Goals as goal
 use Rattle.mail_scan.proofs.field_state.behind_name.Goals.{else-size-lt5-via-then-size-lt5+else-to_ascii_lowercase-size, else-size-lt5-via-else-size-lt5}

@@ -1,6 +1,6 @@
-use Rattle.std.proofs.Common.{◌≡◌, ℕ, ◌+◌, ◌≤◌, Some, length, take, ap, sym, ◌∙◌, arith, rules}
+use Rattle.std.proofs.Common.{◌∙◌, arith, rules}
 use Rattle.std.proofs.lemmas.Grind.{common_steps}
-use Rattle.mail_scan.proofs.ListingLemmas.{HasGiven, begins, gives_one, gave_all, gave_too_many}
+use Rattle.mail_scan.proofs.ListingLemmas.{gives_one, gave_all, gave_too_many}
 use Rattle.mail_scan.proofs.listing.gather.Goals as goal
 
 pub returns-in-Ok-None-clause-names : goal.returns-in-Ok-None-clause-names
@@ -26,8 +26,8 @@ pub loop-name-preserved : goal.loop-name-preserved
 loop-name-preserved g c = record {
   few = omega arith;
   told = λ folder is.
-    let had = c.loop-name.invariant.told folder is in
-    gives_one folder c.loop-name.given c.loop-name.listing c.add.new.self c.in-Ok-Some.field-0-0 (g.S.Spool.state c.loop-name.spool) (g.S.Spool.state c.next_name.new.self) had (rw c.in-Ok-Some.field-0-is at c.in-Ok-Some.ensures.name) c.in_ok-add-in-Ok-Some-2.ensures.added;
+      let had = c.loop-name.invariant.told folder is in
+      gives_one folder c.loop-name.given c.loop-name.listing c.add.new.self c.in-Ok-Some.field-0-0 (g.S.Spool.state c.loop-name.spool) (g.S.Spool.state c.next_name.new.self) had (rw c.in-Ok-Some.field-0-is at c.in-Ok-Some.ensures.name) c.in_ok-add-in-Ok-Some-2.ensures.added;
   faults = search (rules, common_steps);
   files = c.next_name.ensures.files ∙ c.loop-name.invariant.files;
   rest = g.met.S.Spool.rest_then _ _ _ c.loop-name.invariant.rest c.next_name.ensures.rest;

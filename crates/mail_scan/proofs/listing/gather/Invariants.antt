@@ -1,6 +1,5 @@
-use Rattle.std.proofs.Common.{◌≡◌, ℕ, ◌+◌, ◌-◌, ◌≤◌, length, take, Some}
-use Rattle.base_devices.specs.SpoolCalls.{Folder, names_of, shown_files}
-use Rattle.mail_scan.specs.Listing.{SortsOut}
+use Rattle.std.proofs.Common.{◌≡◌, ◌-◌, ◌≤◌, Some}
+use Rattle.base_devices.specs.SpoolCalls.{Folder, shown_files}
 use Rattle.mail_scan.proofs.ListingLemmas.{HasGiven}
 use Rattle.mail_scan.proofs.listing.gather.Given as goal
 

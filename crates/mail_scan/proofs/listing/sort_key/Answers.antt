@@ -1,4 +1,4 @@
-use Rattle.std.proofs.Common.{rules, ◌∙◌}
+use Rattle.std.proofs.Common.{◌∙◌}
 use Rattle.mail_scan.proofs.NameLemmas.{uid_is}
 use Rattle.mail_scan.proofs.listing.sort_key.Goals as goal
 

@@ -1,4 +1,4 @@
-use Rattle.std.proofs.Common.{◌≡◌, ◌≤◌, ◌<◌, ◌++◌, ◌∷◌, [], Some, None, get_or, length, ap, arith, rules, ◌∙◌}
+use Rattle.std.proofs.Common.{◌≡◌, ◌≤◌, Some, None, get_or, length, ap, arith}
 use Rattle.std.proofs.lemmas.Str.Pattern.{strip_suffix_char}
 use Rattle.mail_scan.proofs.NameLemmas.{no_dot, first_digit, parsed}
 use Rattle.mail_scan.proofs.names.uid_of_name.Goals as goal

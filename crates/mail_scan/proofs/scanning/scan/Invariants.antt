@@ -1,4 +1,4 @@
-use Rattle.std.proofs.Common.{◌≡◌, ℕ, ◌-◌, ◌≤◌, List, take, length, Some}
+use Rattle.std.proofs.Common.{◌≡◌, ◌-◌, ◌≤◌, take, length}
 use Rattle.base_devices.specs.SpoolCalls.{MessageFile, HasFile}
 use Rattle.mail_scan.specs.Facts.{KnowsFacts}
 use Rattle.mail_scan.proofs.scanning.scan.Given as goal

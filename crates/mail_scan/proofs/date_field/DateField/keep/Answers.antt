@@ -1,4 +1,3 @@
-use Rattle.std.proofs.Common.{ap, rules, Err, Ok, Result, List, ℕ, ◌≡◌}
 use Rattle.mail_scan.proofs.FieldLemmas.{kept_more}
 use Rattle.mail_scan.proofs.date_field.DateField.keep.Goals as goal
 

@@ -1,4 +1,4 @@
-use Rattle.std.proofs.Common.{ap, sym, ◌∙◌, ◌++◌, ◌∷◌, [], take, rules, arith}
+use Rattle.std.proofs.Common.{ap, ◌∙◌, ◌++◌, ◌∷◌, [], take, arith}
 use Rattle.mail_scan.proofs.FieldLemmas.{take_push, reads_feed, reads_return, reads_byte}
 use Rattle.mail_scan.proofs.date_field.DateField.read_value.Goals as goal
 

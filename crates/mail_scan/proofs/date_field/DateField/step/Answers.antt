@@ -1,6 +1,4 @@
-use Rattle.std.proofs.Common.{◌≡◌, ap, sym, ◌∙◌, ◌++◌, ◌∷◌, [], take, rules, arith}
-use Rattle.mail_scan.specs.FieldState.{ReadsOn}
-use Rattle.mail_scan.specs.declared.field_state.FieldState.{FieldState}
+use Rattle.std.proofs.Common.{ap, sym, ◌∙◌, ◌++◌, ◌∷◌, [], take}
 use Rattle.mail_scan.proofs.FieldLemmas.{take_push, in_line, after_return, after_line_end, goes_on}
 use Rattle.mail_scan.proofs.date_field.DateField.step.Goals as goal
 use Rattle.mail_scan.proofs.date_field.DateField.step.Goals.{then-byte-ne10, else-byte-ne10}
@@ -20,12 +18,12 @@ returns-after-byte-ne10 c header knows =
     let reads = rw c.in-ValueCr.is at knows.reads_on in
     elim c.if-byte-ne10.branch [
       | then-byte-ne10 w ↦
-        c.read_value-in-ValueCr.ensures header (knows.value ++ 13 ∷ [])
-        (ap (λ f. f.kept.items) w.self-is ∙ w.keep.ensures.kept ∙ ap (λ l. take 128 (l ++ 13 ∷ [])) knows.kept ∙ take_push knows.value 13 128)
-        (after_return header knows.value c.args.byte w.if-byte-ne10.true reads)
+          c.read_value-in-ValueCr.ensures header (knows.value ++ 13 ∷ [])
+          (ap (λ f. f.kept.items) w.self-is ∙ w.keep.ensures.kept ∙ ap (λ l. take 128 (l ++ 13 ∷ [])) knows.kept ∙ take_push knows.value 13 128)
+          (after_return header knows.value c.args.byte w.if-byte-ne10.true reads)
       | else-byte-ne10 w ↦
-        c.read_value-in-ValueCr.ensures header knows.value (ap (λ f. f.kept.items) w.self-is ∙ knows.kept)
-        (after_line_end header knows.value c.args.byte w.if-byte-ne10.false reads)
+          c.read_value-in-ValueCr.ensures header knows.value (ap (λ f. f.kept.items) w.self-is ∙ knows.kept)
+          (after_line_end header knows.value c.args.byte w.if-byte-ne10.false reads)
     ]
 
 pub returns-then-is_space : goal.returns-then-is_space

@@ -1,4 +1,4 @@
-use Rattle.std.proofs.Common.{◌≡◌, nat_eq, codes, ap, sym, ◌∙◌, rules}
+use Rattle.std.proofs.Common.{◌≡◌, nat_eq, codes, ap, sym, ◌∙◌}
 use Rattle.std.specs.List.{starts_with}
 use Rattle.mail_scan.proofs.ListingLemmas.{passes_over, takes_message, takes_odd}
 use Rattle.mail_scan.proofs.listing.Listing.add.Goals as goal
@@ -17,9 +17,9 @@ returns-in-Ok-clause-added c given is =
     let uid = rw c.as_str-2.ensures.text at c.uid_of_name.ensures in
     elim c.if-is_some.branch [
       | then-is_some w ↦
-        let pushed = rw (sym w.pushed-is ∙ c.in-Ok.is) at w.push-pushed.ensures.items in
-        takes_message given c.args.name _ _ c.uid_of_name.result was uid w.if-is_some.ensures (ap (λ n. n.messages) w.self-is ∙ pushed) (ap (λ n. n.odd) w.self-is)
+          let pushed = rw (sym w.pushed-is ∙ c.in-Ok.is) at w.push-pushed.ensures.items in
+          takes_message given c.args.name _ _ c.uid_of_name.result was uid w.if-is_some.ensures (ap (λ n. n.messages) w.self-is ∙ pushed) (ap (λ n. n.odd) w.self-is)
       | else-is_some w ↦
-        let pushed = rw (sym w.pushed-is ∙ c.in-Ok.is) at w.push-pushed-else-is_some.ensures.items in
-        takes_odd given c.args.name _ _ c.uid_of_name.result was uid w.if-is_some.ensures own (ap (λ n. n.messages) w.self-is) (ap (λ n. n.odd) w.self-is ∙ pushed)
+          let pushed = rw (sym w.pushed-is ∙ c.in-Ok.is) at w.push-pushed-else-is_some.ensures.items in
+          takes_odd given c.args.name _ _ c.uid_of_name.result was uid w.if-is_some.ensures own (ap (λ n. n.messages) w.self-is) (ap (λ n. n.odd) w.self-is ∙ pushed)
     ]
