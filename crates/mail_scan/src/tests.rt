@@ -1,1 +1,3 @@
-// What no clause says.
+// What no clause says: outside values.
+mod dates;
+mod names;

@@ -1,7 +1,9 @@
 -- The files of a spool in memory: which has a name, and that no two have the same.
-use Rattle.std.proofs.Common.{◌≡◌, ◌⊎◌, inl, inr, ◌↔◌, ℕ, zero, suc, ◌+◌, ◌<◌, ◌≤◌, Bool, true, false, cond, List, [], ◌∷◌, ◌++◌, Option, Some, None, IsSome, IfSome, nat_eq, length, map, refl, sym, ap, subst, ◌∙◌, arith, rules, find, Contains, get_or, min, take, drop, take_at, length-take, length-append, length-drop}
+use Rattle.std.proofs.Common.{◌≡◌, ◌⊎◌, inl, inr, ◌↔◌, ℕ, zero, suc, ◌+◌, ◌<◌, ◌≤◌, Bool, true, false, ◌||◌, cond, List, [], ◌∷◌, ◌++◌, Option, Some, None, IsSome, IfSome, nat_eq, length, map, refl, sym, ap, subst, ◌∙◌, arith, rules, find, Contains, get_or, min, take, drop, take_at, length-take, length-append, length-drop}
 use Rattle.std.specs.Cmp.Lexicographic.{pointwise}
-use Rattle.std.specs.List.{slice_get}
+use Rattle.std.specs.List.{slice_get, list_any}
+use Rattle.std.proofs.lemmas.Slice.Eq.{slice_eq-Decides}
+use Rattle.std.proofs.lemmas.Bool.Decides.{Decides-eqb}
 use Rattle.std.specs.Option.{option_map}
 use Rattle.std.proofs.lemmas.List.{map-append}
 use Rattle.std.proofs.lemmas.Option.{slice_get_within, get_or_from_slice_get, slice_get-get_or}
@@ -100,3 +102,27 @@ copied bytes rest into written at count from size is =
 pub name_of : (name : Option (List ℕ)) (text : List ℕ) → (IsSome name ↔ (length text ≤ 255)) → length text ≤ 255 → IfSome name (λ n. n ≡ text) → name ≡ Some text
 name_of None text some short is = let e : ◌≡◌ {A = Bool} false true = some.1 short in absurd (cc)
 name_of (Some n) text some short is = ap (λ x. Some x) is
+
+or_cases : (a b : Bool) → (a || b) ≡ true → (a ≡ true) ⊎ (b ≡ true)
+or_cases true b h = inl refl
+or_cases false b h = inr h
+
+-- some file has the name, as the search for it says
+pub named_there : (name : List ℕ) (files : List MemFile) → list_any (λ file. pointwise nat_eq file.name name) files ≡ true → Contains (names_of (files_of files)) name
+named_there name [] found = absurd (cc)
+named_there name (file ∷ files) found =
+    elim (or_cases (pointwise nat_eq file.name name) (list_any (λ other. pointwise nat_eq other.name name) files) found) [
+      | inl same ↦ (0, omega arith, (slice_eq-Decides Decides-eqb file.name name (pointwise nat_eq file.name name) refl).0 same)
+      | inr rest ↦ let later = named_there name files rest in (suc later.0, omega (arith, later.1), later.2)
+    ]
+
+or_true : (a : Bool) → (a || true) ≡ true
+or_true true = refl
+or_true false = refl
+
+pub there_named : (name : List ℕ) (files : List MemFile) (k : ℕ) → k < length (names_of (files_of files)) → get_or (names_of (files_of files)) k name ≡ name → list_any (λ file. pointwise nat_eq file.name name) files ≡ true
+there_named name [] k within is = absurd (omega arith)
+there_named name (file ∷ files) zero within is =
+    ap (λ b. b || list_any (λ other. pointwise nat_eq other.name name) files) ((slice_eq-Decides Decides-eqb file.name name (pointwise nat_eq file.name name) refl).1 is)
+there_named name (file ∷ files) (suc k) within is =
+    ap (λ b. pointwise nat_eq file.name name || b) (there_named name files k (omega arith) is) ∙ or_true (pointwise nat_eq file.name name)

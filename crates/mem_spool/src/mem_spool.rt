@@ -29,7 +29,7 @@ pub struct MemSpool {
 }
 
 impl MemSpool {
-    ghost use Rattle.std.specs.Prelude.{◌≡◌, ◌≤◌, [], ◌∷◌, ◌++◌, ℕ, Some, IfOk, OnOk, OnErr, Contains, length, find, nat_eq};
+    ghost use Rattle.std.specs.Prelude.{◌≡◌, ◌≤◌, [], ◌∷◌, ◌++◌, ℕ, Some, IfOk, OnOk, OnErr, Contains, IsTrue, ◌↔◌, length, find, nat_eq};
     ghost use Rattle.std.specs.Cmp.Lexicographic.{pointwise};
     ghost use Rattle.std.specs.Option.{option_copied};
     ghost use Rattle.base_devices.specs.SpoolCalls.{names_of};
@@ -49,6 +49,13 @@ impl MemSpool {
             calls: 0,
             faults: 0,
         })
+    }
+
+    /// Whether a file has this name.
+    pub fn has(&self, name: &str) -> bool
+        ensures { IsTrue result ↔ Contains (names_of (mem_folder self.now).files) name.now }
+    {
+        self.files.iter().any(|file| file.name.as_str() == name)
     }
 
     /// Adds a file.

@@ -1,0 +1,1 @@
+// A folder that the test makes in its own folder.
