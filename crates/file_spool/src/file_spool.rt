@@ -59,7 +59,9 @@ impl<R: Files + AllocGlobal + Clone + Drop> FileSpool<R> {
 }
 
 // The next regular file's name.
-fn next_file<R: Files + AllocGlobal + Clone + Drop>(entries: &mut ReadDir<R>) -> io::Result<Option<Name>> {
+fn next_file<R: Files + AllocGlobal + Clone + Drop>(
+    entries: &mut ReadDir<R>,
+) -> io::Result<Option<Name>> {
     for entry in entries {
         let entry = entry?;
         if entry.file_type()?.is_file() {

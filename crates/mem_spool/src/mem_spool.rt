@@ -109,7 +109,9 @@ impl MemSpool {
         ensures { option_copied result
             ≡ find (λ file. pointwise nat_eq file.name name.now) self.now.files.items }
     {
-        self.files.iter().find(|file| file.name.as_str() == name.as_str())
+        self.files
+            .iter()
+            .find(|file| file.name.as_str() == name.as_str())
     }
 }
 
@@ -125,7 +127,6 @@ impl Spool for MemSpool {
     ghost use Rattle.base_devices.specs.Causes.{HasCause};
     ghost use Rattle.base_devices.specs.SpoolCalls.{MessageFile, Folder, HasFile, GivesName, ReadsFrom};
     ghost use Rattle.mem_spool.specs.MemSpool.{mem_folder, mem_spool_state, CountsSpoolCall, SpoolRest, spool_distinct, spool_rest_same, spool_rest_then};
-
 
     ghost state = { mem_spool_state };
 

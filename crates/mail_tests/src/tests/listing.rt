@@ -8,7 +8,18 @@ use std::process::Abort;
 use std::test::Fail;
 
 const NAMES: [&str; 12] = [
-    "notes", "10.", "01.", "2.", "cyrus.cache", "1", "4294967295.", "4294967296.", "1..", "0.", "cyrus.", "Cyrus.x",
+    "notes",
+    "10.",
+    "01.",
+    "2.",
+    "cyrus.cache",
+    "1",
+    "4294967295.",
+    "4294967296.",
+    "1..",
+    "0.",
+    "cyrus.",
+    "Cyrus.x",
 ];
 
 const MESSAGES: [&str; 3] = ["2.", "10.", "4294967295."];
