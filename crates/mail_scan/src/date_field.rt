@@ -30,7 +30,8 @@ impl DateField {
 
     // Reads the next bytes of the header.
     pub(crate) fn add(&mut self, bytes: &[u8])
-        ensures { (header : List ℕ) → KnowsDate header self.old → KnowsDate (header ++ bytes.now) self.new }
+        ensures { (header : List ℕ) → KnowsDate header self.old →
+            KnowsDate (header ++ bytes.now) self.new }
     {
         for byte in bytes {
             self.step(*byte);
@@ -38,7 +39,8 @@ impl DateField {
     }
 
     fn step(&mut self, byte: u8)
-        ensures { (header : List ℕ) → KnowsDate header self.old → KnowsDate (header ++ byte ∷ []) self.new }
+        ensures { (header : List ℕ) → KnowsDate header self.old →
+            KnowsDate (header ++ byte ∷ []) self.new }
     {
         match self.state {
             FieldState::Name(size) => self.state = behind_name(size, byte),
@@ -64,7 +66,8 @@ impl DateField {
     // Reads a byte of the value, or of the end of its line.
     fn read_value(&mut self, byte: u8)
         ensures { (header value : List ℕ) → self.old.kept.items ≡ take 128 value →
-            ((rest : List ℕ) → date_value (header ++ byte ∷ rest) ≡ Some (value ++ field_value (byte ∷ rest))) →
+            ((rest : List ℕ) → date_value (header ++ byte ∷ rest)
+            ≡ Some (value ++ field_value (byte ∷ rest))) →
             KnowsDate (header ++ byte ∷ []) self.new }
     {
         match byte {
@@ -88,7 +91,8 @@ impl DateField {
     // The date, once the header was read.
     pub(crate) fn date(mut self) -> Option<u32>
         ensures { (header : List ℕ) → KnowsDate header self →
-            result ≡ option_and_then (λ value. date_seconds_of (take 128 value)) (date_value header) }
+            result ≡ option_and_then (λ value. date_seconds_of (take 128 value))
+            (date_value header) }
     {
         match self.state {
             FieldState::Name(_) | FieldState::InLine => None,

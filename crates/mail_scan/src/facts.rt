@@ -67,7 +67,8 @@ impl Facts {
     // Reads the next bytes.
     pub(crate) fn add(&mut self, piece: &[u8])
         requires { self.old.size + length piece.now ≤ 4294967296 }
-        ensures knows { (read : List ℕ) → KnowsFacts read self.old → KnowsFacts (read ++ piece.now) self.new }
+        ensures knows { (read : List ℕ) → KnowsFacts read self.old →
+            KnowsFacts (read ++ piece.now) self.new }
         ensures size { self.new.size ≡ self.old.size + length piece.now }
     {
         self.digest.update(piece);

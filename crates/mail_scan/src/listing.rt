@@ -104,8 +104,10 @@ pub fn list<S: Spool>(alloc: Global, spool: &mut S) -> Result<Listing, ScanFault
 
     // Why it may be refused.
     ensures too_many { result ≡ Err ScanFault.TooMany → (folder : Folder) →
-        (S.state spool.old).folder ≡ Some folder → GaveTooMany folder (S.state spool.new).folder FILES_LIMIT }
-    ensures cause { FaultHasCause IsSpoolFault (S.state spool.old).faults (S.state spool.new).faults result }
+        (S.state spool.old).folder ≡ Some folder →
+        GaveTooMany folder (S.state spool.new).folder FILES_LIMIT }
+    ensures cause { FaultHasCause IsSpoolFault (S.state spool.old).faults
+        (S.state spool.new).faults result }
 
     // What stays.
     ensures files { shown_files (S.state spool.new) ≡ shown_files (S.state spool.old) }
@@ -124,8 +126,10 @@ fn gather<S: Spool>(spool: &mut S, listing: &mut Listing) -> Result<(), ScanFaul
     ensures names { OnOk result ((folder : Folder) → (S.state spool.old).folder ≡ Some folder →
         ListsFolder folder FILES_LIMIT listing.new) }
     ensures too_many { result ≡ Err ScanFault.TooMany → (folder : Folder) →
-        (S.state spool.old).folder ≡ Some folder → GaveTooMany folder (S.state spool.new).folder FILES_LIMIT }
-    ensures cause { FaultHasCause IsSpoolFault (S.state spool.old).faults (S.state spool.new).faults result }
+        (S.state spool.old).folder ≡ Some folder →
+        GaveTooMany folder (S.state spool.new).folder FILES_LIMIT }
+    ensures cause { FaultHasCause IsSpoolFault (S.state spool.old).faults
+        (S.state spool.new).faults result }
     ensures files { shown_files (S.state spool.new) ≡ shown_files (S.state spool.old) }
     ensures rest { S.spool_rest spool.old spool.new }
 {
