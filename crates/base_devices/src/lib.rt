@@ -4,12 +4,15 @@
 //!   disk     a main file, which may be absent, and a new file beside it
 //!   host     a disk with standard output and standard error
 //!   reading  a file is read whole
+//!   spool    a folder of message files
 #![tactic(auto)]
 
 mod disk;
 mod host;
 mod reading;
+mod spool;
 
 pub use disk::{Disk, Failed};
 pub use host::Host;
 pub use reading::{ReadFault, read_whole};
+pub use spool::{NAME_LIMIT, Name, Spool};

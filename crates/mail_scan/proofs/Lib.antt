@@ -1,0 +1,6 @@
+mod DateLemmas
+mod FactLemmas
+mod FieldLemmas
+mod HeaderLemmas
+mod ListingLemmas
+mod NameLemmas

@@ -1,0 +1,3 @@
+// What no clause says: outside values.
+mod dates;
+mod names;

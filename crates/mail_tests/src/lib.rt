@@ -1,0 +1,5 @@
+//! Tests of the mail crates over folders in memory.
+#![tactic(auto)]
+
+#[cfg(test)]
+mod tests;

@@ -1,0 +1,3 @@
+// Folders in memory, listed and scanned.
+mod listing;
+mod scanning;
