@@ -8,7 +8,8 @@ use Rattle.skip_form.specs.Fields.{u16_in}
 use Rattle.skip_spec.specs.Opens.{Opens}
 use Rattle.skip_spec.proofs.Flawless.{and_parts, front_right, opens}
 use Rattle.skip_spec.specs.Chain.{Entry}
-use Rattle.skip_spec.specs.FirstFlaw.{FirstFlaw, row_flaw, front_flaw, dummy_flaw, delete_flaw, way_flaw, live_flaw, end_flaw, next_flaw, successor}
+use Rattle.skip_spec.specs.Successor.{successor_under}
+use Rattle.skip_spec.specs.FirstFlaw.{FirstFlaw, row_flaw, front_flaw, dummy_flaw, delete_flaw, way_flaw, live_flaw, end_flaw, next_flaw}
 use Rattle.skip_spec.specs.Examples.{deleted_file, circular_file, circular_flaw}
 
 abbrev first : Entry
@@ -18,7 +19,7 @@ abbrev second : Entry
 second = record { at = 376; level = 1; key = 98 ∷ []; value = 50 ∷ [] }
 
 pub circular : FirstFlaw circular_file (Some circular_flaw)
-unfolding row_flaw front_flaw dummy_flaw delete_flaw way_flaw live_flaw end_flaw next_flaw successor part u16_in u32_in u64_in after_byte after_bits after_bit
+unfolding row_flaw front_flaw dummy_flaw delete_flaw way_flaw live_flaw end_flaw next_flaw successor_under part u16_in u32_in u64_in after_byte after_bits after_bit
 circular = inr (
   refl,
   (
@@ -48,7 +49,7 @@ are_bytes (x ∷ xs) e (suc i) = let b = and_parts (ltb x 256) (list_all (λ y. 
 
 -- the file with a deleted pair opens, as verification finds no live record and no flaw
 pub deleted : Opens deleted_file []
-unfolding row_flaw front_flaw dummy_flaw delete_flaw way_flaw live_flaw end_flaw next_flaw successor part u16_in u32_in u64_in after_byte after_bits after_bit
+unfolding row_flaw front_flaw dummy_flaw delete_flaw way_flaw live_flaw end_flaw next_flaw successor_under part u16_in u32_in u64_in after_byte after_bits after_bit
 deleted =
     opens deleted_file (are_bytes deleted_file refl) (front_right deleted_file refl) (336 ∷ 376 ∷ 400 ∷ 424 ∷ [])
     (refl, refl, lit< tt, (refl, refl, lit< tt, (refl, refl, lit< tt, (refl, refl, lit< tt, refl))))

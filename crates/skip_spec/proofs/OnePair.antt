@@ -82,8 +82,4 @@ tidy = record {
 
 pub one_pair_opens : Opens one_pair_file one_pair
 unfolding part u16_in u32_in
-one_pair_opens = record {
-  means = (says, reads, refl, inr tidy);
-  levels = (says, reads, (λ e. refl, (λ e. absurd (let h : Commit ≡ Put = e in cc), tt)));
-  clean = (says, reads, λ e. omega (arith, e));
-}
+one_pair_opens = record { says = says; reads = reads; map = refl; sound = inr tidy }

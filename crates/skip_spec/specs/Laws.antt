@@ -1,11 +1,14 @@
 -- Laws of files and images.
-use Rattle.std.specs.Prelude.{◌≡◌, ◌↔◌, ◌≤◌, ℕ, List, [], ◌∷◌, ◌++◌, take, Option, None}
+use Rattle.std.specs.Prelude.{◌≡◌, ◌↔◌, ◌+◌, ◌≤◌, ℕ, List, [], ◌∷◌, ◌++◌, length, take, Option, None}
 use Rattle.base_bytes.specs.Fields.{AreBytes}
 use Rattle.base_bytes.specs.OrderedMap.{Map, IsOrderedMap, IsBelow, BeginsAbove}
 use Rattle.base_bytes.specs.Landing.{Lands}
 use Rattle.base_bytes.specs.declared.flaw.Damage.{Damage}
+use Rattle.skip_form.specs.declared.head.Head.{Head}
+use Rattle.skip_form.specs.Flaws.{head_in}
+use Rattle.skip_form.specs.Spelling.{StandsAt}
 use Rattle.skip_spec.specs.FirstFlaw.{FirstFlaw}
-use Rattle.skip_spec.specs.Opens.{Contents, Reads, Means, OnlyLevelOne, Opens, HasDirty}
+use Rattle.skip_spec.specs.Opens.{Contents, Reads, Opens, HasDirty}
 use Rattle.skip_spec.specs.Near.{Near, IsPermittedWrite}
 use Rattle.skip_spec.specs.Successor.{IsSuccessorUnder}
 use Rattle.skip_spec.specs.Chain.{Entry, Chain, StandsAsEntry, pairs}
@@ -13,27 +16,31 @@ use Rattle.skip_spec.specs.Change.{Changes, first_at, last_at, last_key}
 
 -- ---- of files
 
--- a file means at most one map
-abbrev pub MeansOneMap : Type 0
-MeansOneMap = (file : List ℕ) (m n : Map) → Means file m → Means file n → m ≡ n
-
 -- a file opens to at most one map
 abbrev pub OpensToOneMap : Type 0
 OpensToOneMap = (file : List ℕ) (m n : Map) → Opens file m → Opens file n → m ≡ n
 
--- the keys of the map that a file means rise strictly
-abbrev pub MeansOrderedMap : Type 0
-MeansOrderedMap = (file : List ℕ) (m : Map) → Means file m → IsOrderedMap m
+-- the keys of the map that a file opens to rise strictly
+abbrev pub OpensToOrderedMap : Type 0
+OpensToOrderedMap = (file : List ℕ) (m : Map) → Opens file m → IsOrderedMap m
+
+-- A head depends on the bytes before an end alone: where it begins so far before the end, the file up to the end
+-- has the same one.
+abbrev pub HeadsStandBeforeEnd : Type 0
+HeadsStandBeforeEnd = (file : List ℕ) (end at : ℕ) → at + 8 ≤ end → end ≤ length file → head_in (take end file) at ≡ head_in file at
+
+-- a record stands in the file up to an end exactly where it stands in the file and ends by then
+abbrev pub RecordsStandBeforeEnd : Type 0
+RecordsStandBeforeEnd =
+    (file : List ℕ) (end at : ℕ) (h : Head)
+    → end ≤ length file
+    → StandsAt (take end file) at h ↔ (StandsAt file at h × (at + h.size ≤ end))
 
 -- ---- of images
 
--- an image of an open transaction means the map of its base
-abbrev pub ImagesMeanAlike : Type 0
-ImagesMeanAlike = (base image : List ℕ) (m : Map) → Means base m → Near base image → Means image m
-
--- where the base has no upper levels, its images have none
-abbrev pub ImagesKeepLevelOne : Type 0
-ImagesKeepLevelOne = (base image : List ℕ) → OnlyLevelOne base → Near base image → OnlyLevelOne image
+-- an image of an open transaction opens to the map of its base
+abbrev pub ImagesOpenAlike : Type 0
+ImagesOpenAlike = (base image : List ℕ) (m : Map) → Opens base m → Near base image → Opens image m
 
 -- where a permitted write lands on a dirty image, in whole or in part, it stays near its base and dirty
 abbrev pub LandingsStayNear : Type 0
