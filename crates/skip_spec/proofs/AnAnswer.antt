@@ -18,9 +18,9 @@ use Rattle.skip_form.proofs.HeadLemmas.{head_inside}
 use Rattle.skip_spec.proofs.BeforeEnd.{same_head}
 use Rattle.skip_spec.specs.Records.{key_in}
 use Rattle.skip_spec.specs.Rows.{IsAmong}
-use Rattle.skip_spec.specs.Chain.{Entry}
+use Rattle.skip_spec.specs.Chain.{Entry, entry_at}
 use Rattle.skip_spec.specs.Successor.{is_of, successor_under}
-use Rattle.skip_spec.specs.FirstFlaw.{unless, first_some, end_of, is_among, is_below, before_end, at_place, row_flaw, front_checks, front_flaw, dummy_flaw, delete_checks, delete_flaw, pointer_checks, pointer_flaw, pointer_under_end, way_checks, way_flaw, live_checks, live_flaw, end_flaw, next_checks, next_flaw, successor, latest, latest_key, entry_at, RightRows, RightLive, InChain, FromDummy, FromRows, FirstFlaw}
+use Rattle.skip_spec.specs.FirstFlaw.{unless, first_some, end_of, is_among, is_below, before_end, at_place, row_flaw, front_checks, front_flaw, dummy_flaw, delete_checks, delete_flaw, pointer_checks, pointer_flaw, pointer_under_end, way_checks, way_flaw, live_checks, live_flaw, end_flaw, next_checks, next_flaw, successor, latest, latest_key, RightRows, RightLive, InChain, FromDummy, FromRows, FirstFlaw}
 
 -- ---- checks in a row
 
@@ -133,7 +133,7 @@ rank_le : (file k l : List ℕ) (ss : List ℕ) → IsBelow k l → rank file l 
 rank_le file k l [] p = omega arith
 rank_le file k l (s ∷ ss) p = no_more (is_below l (key_in file s)) (is_below k (key_in file s)) _ _ (then_below k l (key_in file s) p) (rank_le file k l ss p)
 
-rank_lt : (file k : List ℕ) (ss : List ℕ) (v : ℕ) → IsBelow k (key_in file v) → IsAmong ss v → rank file (key_in file v) ss < rank file k ss
+pub rank_lt : (file k : List ℕ) (ss : List ℕ) (v : ℕ) → IsBelow k (key_in file v) → IsAmong ss v → rank file (key_in file v) ss < rank file k ss
 rank_lt file k [] v p m = absurd m
 rank_lt file k (s ∷ ss) v p (inl e) =
     one_fewer (is_below (key_in file v) (key_in file s)) (is_below k (key_in file s)) _ _

@@ -1,12 +1,11 @@
 -- The files with a deleted pair and with a circle, by computation.
-use Rattle.std.proofs.Common.{◌≡◌, ℕ, zero, suc, ltb, true, List, [], ◌∷◌, Some, refl, inl, inr, arith, lit<}
-use Rattle.std.specs.List.{list_all}
-use Rattle.std.proofs.lemmas.Bool.{ltb-true}
+use Rattle.std.proofs.Common.{[], ◌∷◌, Some, refl, inl, inr, arith, lit<}
 use Rattle.check_word.specs.CheckWord.{after_byte, after_bits, after_bit}
-use Rattle.base_bytes.specs.Fields.{part, u32_in, u64_in, AreBytes}
+use Rattle.base_bytes.specs.Fields.{part, u32_in, u64_in}
 use Rattle.skip_form.specs.Fields.{u16_in}
 use Rattle.skip_spec.specs.Opens.{Opens}
-use Rattle.skip_spec.proofs.Flawless.{and_parts, front_right, opens}
+use Rattle.skip_spec.proofs.Flawless.{front_right, opens}
+use Rattle.skip_spec.proofs.RecordBytes.{are_bytes}
 use Rattle.skip_spec.specs.Chain.{Entry}
 use Rattle.skip_spec.specs.Successor.{successor_under}
 use Rattle.skip_spec.specs.FirstFlaw.{FirstFlaw, row_flaw, front_flaw, dummy_flaw, delete_flaw, way_flaw, live_flaw, end_flaw, next_flaw}
@@ -40,12 +39,6 @@ circular = inr (
     ),
   ),
 )
-
--- each of these numbers is below 256
-are_bytes : (xs : List ℕ) → list_all (λ x. ltb x 256) xs ≡ true → AreBytes xs
-are_bytes [] e i = omega arith
-are_bytes (x ∷ xs) e zero = let b = and_parts (ltb x 256) (list_all (λ y. ltb y 256) xs) e in ltb-true x 256 b.0
-are_bytes (x ∷ xs) e (suc i) = let b = and_parts (ltb x 256) (list_all (λ y. ltb y 256) xs) e in are_bytes xs b.1 i
 
 -- the file with a deleted pair opens, as verification finds no live record and no flaw
 pub deleted : Opens deleted_file []

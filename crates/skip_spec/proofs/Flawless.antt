@@ -18,9 +18,9 @@ use Rattle.skip_form.proofs.HeadLemmas.{StandsAt-head_in, head_inside}
 use Rattle.skip_spec.specs.Records.{HasKind, head_size_of, body_size_of, HeadCheckIsRight, TailCheckIsRight}
 use Rattle.skip_spec.specs.Rows.{IsAmong, Rows}
 use Rattle.skip_spec.specs.Successor.{LeadsTo, IsSuccessorUnder, is_of, successor_under}
-use Rattle.skip_spec.specs.Chain.{Entry, Chain, StandsAsEntry, pairs}
+use Rattle.skip_spec.specs.Chain.{Entry, Chain, StandsAsEntry, pairs, entry_at}
 use Rattle.skip_spec.specs.Opens.{Contents, Tidy, IsTidyHead, Links, on_level, Opens, IsDirty}
-use Rattle.skip_spec.specs.FirstFlaw.{first_some, header_place, at_header_place, before_end, end_of, is_dirty, is_end_right, is_head_right, is_tail_right, is_padding_right, is_zero, is_among, pointer_under_end, are_slots_right, lead_to, row_flaw, front_checks, front_flaw, dummy_checks, dummy_flaw, delete_checks, delete_flaw, pointer_checks, pointer_flaw, way_checks, way_flaw, live_checks, live_flaw, end_checks, end_flaw, next_checks, next_flaw, successor, latest, latest_key, latest_on, entry_at, RightRows, RightLive, FirstFlaw}
+use Rattle.skip_spec.specs.FirstFlaw.{first_some, header_place, at_header_place, before_end, end_of, is_dirty, is_end_right, is_head_right, is_tail_right, is_padding_right, is_zero, is_among, pointer_under_end, are_slots_right, lead_to, row_flaw, front_checks, front_flaw, dummy_checks, dummy_flaw, delete_checks, delete_flaw, pointer_checks, pointer_flaw, way_checks, way_flaw, live_checks, live_flaw, end_checks, end_flaw, next_checks, next_flaw, successor, latest, latest_key, latest_on, RightRows, RightLive, FirstFlaw}
 use Rattle.skip_spec.proofs.AnAnswer.{all_none, holds, otherwise, or_some, among, live_below, no_row_flaw}
 use Rattle.skip_spec.proofs.BeforeEnd.{AreBytes-take, same_head, stands_in}
 use Rattle.skip_spec.proofs.Pointers.{is_greatest}

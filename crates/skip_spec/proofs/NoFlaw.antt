@@ -12,22 +12,23 @@ use Rattle.skip_form.specs.declared.head.Kind.TheVariants.{Put, Gone, Commit}
 use Rattle.skip_form.specs.declared.header.Header.{Header}
 use Rattle.skip_form.specs.Fields.{pointer_in}
 use Rattle.skip_form.specs.Flaws.{header_flaw, header_in, head_in}
-use Rattle.skip_form.specs.Spelling.{StandsAt, type_byte, IsLevelOf}
+use Rattle.skip_form.specs.Spelling.{StandsAt, IsLevelOf}
 use Rattle.base_bytes.specs.Fields.{AreBytes}
 use Rattle.skip_form.proofs.HeaderLemmas.{header_flaw-header_bytes}
 use Rattle.skip_form.proofs.HeadLemmas.{head_flaw-StandsAt}
-use Rattle.skip_spec.specs.Records.{HasKind, HeadCheckIsRight, TailCheckIsRight}
+use Rattle.skip_spec.specs.Records.{HeadCheckIsRight, TailCheckIsRight}
 use Rattle.skip_spec.specs.Rows.{IsAmong, Rows}
-use Rattle.skip_spec.specs.Successor.{IsPointerUnder, LeadsPastDelete, LeadsTo, IsSuccessorUnder, is_of, successor_under}
-use Rattle.skip_spec.specs.Chain.{Entry, Chain, StandsAsEntry}
+use Rattle.skip_spec.specs.Successor.{IsPointerUnder, LeadsPastDelete, LeadsTo, IsSuccessorUnder, is_of}
+use Rattle.skip_spec.specs.Chain.{Entry, Chain, StandsAsEntry, entry_at}
 use Rattle.skip_spec.specs.Opens.{Contents, Reads, Tidy, IsTidyHead, Links, on_level, Opens, IsDirty}
-use Rattle.skip_spec.specs.FirstFlaw.{unless, first_some, at_header_place, at_place, before_end, end_of, is_dirty, is_end_right, is_head_right, is_tail_right, is_zero, is_among, pointer_under_end, are_slots_right, lead_to, row_flaw, front_checks, front_flaw, dummy_checks, dummy_flaw, delete_checks, delete_flaw, pointer_checks, pointer_flaw, way_checks, way_flaw, live_checks, live_flaw, end_checks, end_flaw, next_checks, next_flaw, successor, latest, latest_key, latest_on, entry_at, RightRows, RightLive, InChain, FirstFlaw}
+use Rattle.skip_spec.specs.FirstFlaw.{unless, first_some, at_header_place, at_place, before_end, end_of, is_dirty, is_end_right, is_head_right, is_tail_right, is_zero, is_among, pointer_under_end, are_slots_right, lead_to, row_flaw, front_checks, front_flaw, dummy_checks, dummy_flaw, delete_checks, delete_flaw, pointer_checks, pointer_flaw, way_checks, way_flaw, live_checks, live_flaw, end_checks, end_flaw, next_checks, next_flaw, successor, latest, latest_key, latest_on, RightRows, RightLive, InChain, FirstFlaw}
 use Rattle.skip_spec.proofs.AnAnswer.{AllNone, otherwise}
 use Rattle.skip_spec.proofs.KindLemmas.{dummy_level, dummy_lengths}
 use Rattle.skip_spec.proofs.Kept.{row_at}
-use Rattle.skip_spec.proofs.Places.{within, laid-rows, laid_le}
+use Rattle.skip_spec.proofs.Places.{laid-rows, laid_le}
 use Rattle.skip_spec.proofs.BeforeEnd.{stands_before}
 use Rattle.skip_spec.proofs.Pointers.{one_under, greatest_is}
+use Rattle.skip_spec.proofs.Successors.{chosen_first, of_kind, not_of, high_start, successor_of}
 
 -- ---- tests
 
@@ -39,10 +40,6 @@ none_all (Some d ∷ xs) all = absurd (let h = all.0 in cc)
 passes : (b : Bool) (at : ℕ) (f : Flaw) → b ≡ true → unless b at f ≡ None
 passes true at f e = refl
 passes false at f e = absurd cc
-
-chosen_first : {A : Type 0} (t : Bool) (x y : A) → t ≡ true → cond t x y ≡ x
-chosen_first true x y e = refl
-chosen_first false x y e = absurd cc
 
 both : (p q : Bool) → p ≡ true → q ≡ true → (p && q) ≡ true
 both true q e f = f
@@ -73,12 +70,6 @@ are_zeros xs n e = ap (list_all is_zero) e ∙ of_zeros n
     of_zeros zero = refl
     of_zeros (suc n) = of_zeros n
 
-of_kind : (file : List ℕ) (v : ℕ) (k : kinds.Kind) → HasKind file v k → is_of file v k ≡ true
-of_kind file v k e = eq-eqb (type_byte (head_in file v).kind) (type_byte k) (ap type_byte e)
-
-not_of : (file : List ℕ) (v : ℕ) (k l : kinds.Kind) → HasKind file v k → type_byte k ≢ type_byte l → is_of file v l ≡ false
-not_of file v k l e differ = ne_eqb (type_byte (head_in file v).kind) (type_byte l) (λ same. differ (sym (ap type_byte e) ∙ same))
-
 -- ---- rows
 
 row_right : (file : List ℕ) (at : ℕ) → StandsAt file at (head_in file at) → end_of file ≤ length file → at + (head_in file at).size ≤ end_of file → row_flaw file at ≡ None
@@ -100,7 +91,7 @@ module _ (file starts : List ℕ) (rows : Rows file 336 starts (end_of file)) wh
   Slots at = (pointer_in file at 0 < end_of file) × (pointer_in file at 1 < end_of file)
 
   positive : (v : ℕ) → IsAmong starts v → v ≢ 0
-  positive v m z = let low = (within file 336 starts (end_of file) v (laid-rows file 336 starts (end_of file) rows) m).low in omega (arith, low, z)
+  positive v m = high_start file starts (end_of file) rows v m
 
   pointer_is : (at v : ℕ) → IsPointerUnder file (end_of file) at v → pointer_under_end file at ≡ v
   pointer_is at v p = greatest_is (end_of file) (pointer_in file at 0) (pointer_in file at 1) v p
@@ -126,37 +117,30 @@ module _ (file starts : List ℕ) (rows : Rows file 336 starts (end_of file)) wh
         | inr q ↦ subst (λ (x : ℕ). (is_among starts x ≡ true) × (is_of file x Put ≡ true)) (sym p.pointer) (true_among starts next q.0, of_kind file next Put q.1)
       ]
 
-  -- what a right pointer leads to has no flaw, and is the successor
-  abbrev GoesOn : ℕ → ℕ → ℕ → Type 0
-  GoesOn at v next = (pointer_flaw file starts at v ≡ None) × ((cond (eqb v 0) 0 (cond (is_of file v Gone) (pointer_in file v 0) v)) ≡ next)
-
-  goes_on : (at v next : ℕ) → LeadsTo file starts v next → GoesOn at v next
-  goes_on at v next (inl z) = (chosen_first (eqb v 0) None (first_some (pointer_checks file starts at v)) (eq-eqb v 0 z.0), chosen_first (eqb v 0) 0 (cond (is_of file v Gone) (pointer_in file v 0) v) (eq-eqb v 0 z.0) ∙ sym z.1)
+  -- what a right pointer leads to has no flaw
+  goes_on : (at v next : ℕ) → LeadsTo file starts v next → pointer_flaw file starts at v ≡ None
+  goes_on at v next (inl z) = chosen_first (eqb v 0) None (first_some (pointer_checks file starts at v)) (eq-eqb v 0 z.0)
   goes_on at v next (inr (inl p)) =
       let some = ne_eqb v 0 (positive v p.0) in
       let gone = not_of file v Put Gone p.1 (λ e. omega (arith, e)) in
-      let commit = not_of file v Put Commit p.1 (λ e. omega (arith, e)) in (
-        otherwise (eqb v 0) None (first_some (pointer_checks file starts at v)) some ∙ none_all (pointer_checks file starts at v) (
-          passes _ at _ (true_among starts v p.0),
-          (
-            passes _ v _ (negated (is_of file v Commit) commit),
-            (otherwise (is_of file v Gone) (delete_flaw file starts v) None gone, tt),
-          ),
+      let commit = not_of file v Put Commit p.1 (λ e. omega (arith, e)) in
+      otherwise (eqb v 0) None (first_some (pointer_checks file starts at v)) some ∙ none_all (pointer_checks file starts at v) (
+        passes _ at _ (true_among starts v p.0),
+        (
+          passes _ v _ (negated (is_of file v Commit) commit),
+          (otherwise (is_of file v Gone) (delete_flaw file starts v) None gone, tt),
         ),
-        otherwise (eqb v 0) 0 (cond (is_of file v Gone) (pointer_in file v 0) v) some ∙ otherwise (is_of file v Gone) (pointer_in file v 0) v gone ∙ sym p.2,
       )
   goes_on at v next (inr (inr p)) =
       let some = ne_eqb v 0 (positive v p.start) in
       let gone = of_kind file v Gone p.kind in
-      let commit = not_of file v Gone Commit p.kind (λ e. omega (arith, e)) in (
-        otherwise (eqb v 0) None (first_some (pointer_checks file starts at v)) some ∙ none_all (pointer_checks file starts at v) (
-          passes _ at _ (true_among starts v p.start),
-          (
-            passes _ v _ (negated (is_of file v Commit) commit),
-            (chosen_first (is_of file v Gone) (delete_flaw file starts v) None gone ∙ delete_right v next p, tt),
-          ),
+      let commit = not_of file v Gone Commit p.kind (λ e. omega (arith, e)) in
+      otherwise (eqb v 0) None (first_some (pointer_checks file starts at v)) some ∙ none_all (pointer_checks file starts at v) (
+        passes _ at _ (true_among starts v p.start),
+        (
+          passes _ v _ (negated (is_of file v Commit) commit),
+          (chosen_first (is_of file v Gone) (delete_flaw file starts v) None gone ∙ delete_right v next p, tt),
         ),
-        otherwise (eqb v 0) 0 (cond (is_of file v Gone) (pointer_in file v 0) v) some ∙ chosen_first (is_of file v Gone) (pointer_in file v 0) v gone ∙ p.pointer,
       )
 
   slots_right : (at v : ℕ) → IsPointerUnder file (end_of file) at v → (is_dirty file ≡ false → Slots at) → are_slots_right file at ≡ true
@@ -166,10 +150,10 @@ module _ (file starts : List ℕ) (rows : Rows file 336 starts (end_of file)) wh
       (λ clean. (lt-ltb _ _ (slots clean).0, lt-ltb _ _ (slots clean).1))
 
   way_right : (at next : ℕ) → (is_dirty file ≡ false → Slots at) → IsSuccessorUnder file (end_of file) starts at next → (way_flaw file starts at ≡ None) × (successor file at ≡ next)
-  unfolding way_flaw successor_under
+  unfolding way_flaw
   way_right at next slots f =
-      let on = subst (λ (v : ℕ). GoesOn at v next) (sym (pointer_is at f.0 f.1)) (goes_on at f.0 next f.2) in
-      (none_all (way_checks file starts at) (passes _ at _ (slots_right at f.0 f.1 slots), (on.0, tt)), on.1)
+      let on = subst (λ (v : ℕ). pointer_flaw file starts at v ≡ None) (sym (pointer_is at f.0 f.1)) (goes_on at f.0 next f.2) in
+      (none_all (way_checks file starts at) (passes _ at _ (slots_right at f.0 f.1 slots), (on, tt)), successor_of file starts positive (end_of file) at next f)
 
   live_right : (passed : List Entry) (e : Entry) → StandsAsEntry file starts e → IsBelow (latest_key passed) e.key → (is_dirty file ≡ false → HeadCheckIsRight file e.at × (lead_to file passed e.at ((head_in file e.at).level - 1) ≡ true)) → live_flaw file passed e.at ≡ None
   unfolding live_flaw

@@ -11,9 +11,9 @@ use Rattle.skip_form.specs.declared.head.Kind.TheVariants.{Put, Gone, Commit}
 use Rattle.base_bytes.specs.Fields.{part, u32_in}
 use Rattle.skip_form.specs.Fields.{pointer_in}
 use Rattle.skip_form.specs.Flaws.{header_flaw, header_in, head_flaw, head_in}
-use Rattle.skip_spec.specs.Records.{head_size_of, body_size_of, key_in, value_in}
+use Rattle.skip_spec.specs.Records.{head_size_of, body_size_of, key_in}
 use Rattle.skip_spec.specs.Successor.{is_of, pointer_under, successor_under}
-use Rattle.skip_spec.specs.Chain.{Entry}
+use Rattle.skip_spec.specs.Chain.{Entry, entry_at}
 
 -- ---- checks in a row
 
@@ -184,10 +184,6 @@ abbrev pub lead_to : List ℕ → List Entry → ℕ → ℕ → Bool
 lead_to file passed at zero = true
 lead_to file passed at (suc level) =
     pointer_in file (latest_on (suc level) passed) (suc level + 1) == at && lead_to file passed at level
-
--- the entry of the put record at an offset
-abbrev pub entry_at : List ℕ → ℕ → Entry
-entry_at file at = record { at = at; level = (head_in file at).level; key = key_in file at; value = value_in file at }
 
 -- a byte is zero
 abbrev pub is_zero : ℕ → Bool

@@ -1,5 +1,5 @@
 // Laws over the definitions.
-ghost use Rattle.skip_spec.specs.Laws.{OpensToOneMap, OpensToOrderedMap, HeadsStandBeforeEnd, RecordsStandBeforeEnd, ImagesOpenAlike, LandingsStayNear, CutsStayNear, PutGivesChain, DeleteGivesChain, FirstFlawExists, FirstFlawIsUnique, FlawlessOpens};
+ghost use Rattle.skip_spec.specs.Laws.{OpensToOneMap, OpensToOrderedMap, HeadsStandBeforeEnd, RecordsStandBeforeEnd, FileListsAreComputed, LiveListsAreComputed, TidyFilesAreLive, LiveFilesAreTidy, LiveWhateverTheHeader, EachKeyHasAPlace, LiveKeysRise, PlacePuts, PlaceRemoves, PlaceTells, ImagesOpenAlike, LandingsStayNear, CutsStayNear, AppendsArePermitted, LayoutsAreFresh, RecoveryGivesBack, PutGivesChain, DeleteGivesChain, FirstFlawExists, FirstFlawIsUnique, FlawlessOpens};
 
 /// A file opens to one map at most, and its keys rise strictly.
 pub fn file_opens_to_one_map()
@@ -24,6 +24,44 @@ pub fn records_end_before_the_end()
     ensures records { RecordsStandBeforeEnd }
 {}
 
+/// The live records under an end, of a file and of the bytes of a transaction, are those that a function of the
+/// bytes gives.
+pub fn live_records_are_computed()
+    ensures file { FileListsAreComputed }
+    ensures live { LiveListsAreComputed }
+{}
+
+/// The records of a tidy file are live; and where records are live under a right header that names their end and
+/// their number, the file is tidy. The header says nothing else of them.
+pub fn tidy_files_are_live()
+    ensures live { TidyFilesAreLive }
+    ensures back { LiveFilesAreTidy }
+    ensures header { LiveWhateverTheHeader }
+{}
+
+/// Each key, the empty one too, has a place among the live records, whose keys rise.
+pub fn each_key_has_a_place()
+    ensures place { EachKeyHasAPlace }
+    ensures rise { LiveKeysRise }
+{}
+
+/// At the place of a key the list gives the map's answer, and a change there is one of the map.
+pub fn places_follow_the_map()
+    ensures value { PlaceTells }
+    ensures put { PlacePuts }
+    ensures delete { PlaceRemoves }
+{}
+
+/// The fresh layout of an ordered map is a tidy file of this map, and of the levels that were given.
+pub fn fresh_layout_is_tidy()
+    ensures { LayoutsAreFresh }
+{}
+
+/// What recovery makes of an image of a tidy file is what the file said.
+pub fn recovery_gives_back_a_tidy_file()
+    ensures { RecoveryGivesBack }
+{}
+
 /// An image that an unfinished transaction or recovery leaves opens to the committed map.
 pub fn near_images_open_alike()
     ensures { ImagesOpenAlike }
@@ -34,6 +72,11 @@ pub fn near_images_open_alike()
 pub fn permitted_writes_stay_near()
     ensures landings { LandingsStayNear }
     ensures cuts { CutsStayNear }
+{}
+
+/// A write from the committed end on is permitted.
+pub fn appends_are_permitted()
+    ensures { AppendsArePermitted }
 {}
 
 /// The list after a put is the records before the key's place, the new one and those after it; after a delete
