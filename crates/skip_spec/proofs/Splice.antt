@@ -55,7 +55,7 @@ linked_rises : (b : List ℕ) (bound : ℕ) (starts : List ℕ) (at : ℕ) (k : 
 linked_rises b bound starts at k e [] to l c = subst (λ (j : List ℕ). IsBelow k j) c.3.1 c.2
 linked_rises b bound starts at k e (f ∷ fs) to l c = below_trans k e.key l c.2 (linked_rises b bound starts e.at e.key f fs to l c.3)
 
-chain_rises : (b : List ℕ) (bound : ℕ) (starts : List ℕ) (at : ℕ) (k : List ℕ) (es : List Entry) → Chain b bound starts at k es → (v : ℕ) → IsAmong (map (λ e. e.at) es) v → IsAmong starts v × IsBelow k (key_in b v)
+pub chain_rises : (b : List ℕ) (bound : ℕ) (starts : List ℕ) (at : ℕ) (k : List ℕ) (es : List Entry) → Chain b bound starts at k es → (v : ℕ) → IsAmong (map (λ e. e.at) es) v → IsAmong starts v × IsBelow k (key_in b v)
 chain_rises b bound starts at k [] c v m = absurd m
 chain_rises b bound starts at k (e ∷ es) c v (inl same) = subst (λ (x : ℕ). IsAmong starts x × IsBelow k (key_in b x)) same (c.1.start, subst (λ (j : List ℕ). IsBelow k j) (sym c.1.key) c.2)
 chain_rises b bound starts at k (e ∷ es) c v (inr m) = let rest = chain_rises b bound starts e.at e.key es c.3 v m in (rest.0, below_trans k e.key (key_in b v) c.2 rest.1)

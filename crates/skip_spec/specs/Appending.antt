@@ -1,6 +1,7 @@
 -- What a store, a delete and a commit append, and what they leave of the bytes before.
 use Rattle.std.specs.Prelude.{◌≡◌, ◌≢◌, ℕ, zero, suc, ◌+◌, ◌-◌, ◌*◌, ◌/◌, ◌<◌, ◌≤◌, List, [], ◌∷◌, ◌++◌, length, take, drop, slice_index, max}
 use Rattle.skip_form.specs.declared.header.Header.{Header}
+use Rattle.skip_form.specs.declared.head.Kind.{Kind}
 use Rattle.skip_form.specs.declared.head.Kind.TheVariants.{Put, Gone, Commit}
 use Rattle.skip_form.specs.Spelling.{Record, IsHeader, header_bytes, record_bytes}
 use Rattle.skip_spec.specs.Rows.{IsAmong}
@@ -20,6 +21,10 @@ upper_pointers level (suc count) rest = first_at (on_level level rest) ∷ upper
 -- the pointers of a record of this level before these records: the two of level zero, and the upper ones
 abbrev pub pointers_to : ℕ → List Entry → List ℕ
 pointers_to level rest = first_at rest ∷ 0 ∷ upper_pointers 1 (level - 1) rest
+
+-- a record of this type, level, pointers, key and value
+abbrev pub record_of : Kind → ℕ → List ℕ → List ℕ → List ℕ → Record
+record_of kind level pointers key value = record { kind = kind; level = level; pointers = pointers; key = key; value = value }
 
 -- a put record, before these live ones
 abbrev pub put_record : Entry → List Entry → Record
