@@ -1,4 +1,6 @@
 mod FileExamples
+mod LayoutExamples
+mod NearExamples
 mod OnePair
 pub mod AnAnswer
 pub mod BeforeEnd

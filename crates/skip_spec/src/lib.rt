@@ -7,8 +7,9 @@ mod examples;
 mod laws;
 
 pub use examples::{
-    circular_file_has_its_flaw, deleted_file_opens, one_pair_file_opens,
-    second_of_two_is_found_in_33,
+    a_store_is_a_change, circular_file_has_its_flaw, deleted_file_opens, first_store_takes_slot_1,
+    fresh_layouts_have_these_bytes, images_of_a_store_open, one_pair_file_opens,
+    search_bounds_are_these, two_levels_file_opens,
 };
 pub use laws::{
     appends_are_permitted, changes_give_the_list, each_key_has_a_place, file_has_one_first_flaw,
