@@ -9,3 +9,4 @@ pub mod Setting
 pub mod Spots
 pub mod Stored
 pub mod Ties
+pub mod Walks

@@ -1,5 +1,5 @@
 -- Laws of lists that change.
-use Rattle.std.specs.Prelude.{◌≡◌, ◌≢◌, ◌⊎◌, ℕ, ◌+◌, ◌-◌, ◌*◌, ◌^◌, ◌<◌, ◌≤◌, List, [], ◌∷◌, ◌++◌, length, take, slice_index}
+use Rattle.std.specs.Prelude.{Bool, true, false, ◌≡◌, ◌≢◌, ◌⊎◌, ℕ, ◌+◌, ◌-◌, ◌*◌, ◌^◌, ◌<◌, ◌≤◌, List, [], ◌∷◌, ◌++◌, length, take, slice_index}
 use Rattle.std.specs.Int.{w32, w64, to_be_bytes}
 use Rattle.check_word.specs.CheckWord.{check_word}
 use Rattle.base_bytes.specs.Fields.{part}
@@ -11,14 +11,15 @@ use Rattle.skip_form.specs.Spelling.{head_of, header_bytes}
 use Rattle.skip_spec.specs.Records.{HeadCheckIsRight, head_size_of}
 use Rattle.skip_spec.specs.Rows.{IsAmong}
 use Rattle.skip_spec.specs.Chain.{Entry}
-use Rattle.skip_spec.specs.Change.{heads_of, first_at}
+use Rattle.skip_spec.specs.Change.{heads_of, first_at, last_at}
+use Rattle.skip_spec.specs.Successor.{successor_under}
 use Rattle.skip_spec.specs.Opens as opens
 use Rattle.skip_spec.specs.Opens.{Contents, Tidy, on_level}
 use Rattle.skip_spec.specs.Near.{heads, free_slot_of, IsImageOf, IsPermittedWrite}
 use Rattle.skip_spec.specs.Live.{HasLog, Live}
-use Rattle.skip_spec.specs.Place.{last_on}
+use Rattle.skip_spec.specs.Place.{last_on, IsFound}
 use Rattle.skip_spec.specs.Spelled.{IsSpelled}
-use Rattle.skip_spec.specs.Appending.{record_of, delete_record, put_entry}
+use Rattle.skip_spec.specs.Appending.{record_of, delete_record, put_entry, ChangesLinks}
 use Rattle.skip_spec.specs.Recovery.{recovered}
 use Rattle.skip_lists.specs.Heads.{HasSlots, SetsPointer, MaySet}
 use Rattle.skip_lists.specs.Levels.{Relinking, IsSpot, ArePast}
@@ -112,7 +113,46 @@ RepairMayClear =
     → says.header.current_size ≤ pointer_in image at slot
     → MaySet base says image at slot 0
 
+-- ---- along the list
+
+-- from the last of the records that were passed the successor is the first of those that are left
+abbrev pub NextIsTheSuccessor : Type 0
+NextIsTheSuccessor =
+    (file starts : List ℕ) (es passed left : List Entry) (end : ℕ)
+    → HasLog file starts es end
+    → es ≡ passed ++ left
+    → successor_under file end (last_at 64 passed) ≡ first_at left
+
+-- What a search found is a spot: the record of the key and the one after it, where it is there, and else the first
+-- one above the key.
+abbrev pub FoundIsASpot : Type 0
+FoundIsASpot =
+    (bytes starts : List ℕ) (es : List Entry) (key : List ℕ) (here : ℕ) (before : List ℕ) (exact : Bool) (same_at next : ℕ)
+    → Live bytes starts es
+    → IsFound es key here before exact
+    → (exact ≡ true → (same_at ≡ here) × (next ≡ successor_under bytes (length bytes) here))
+    → (exact ≡ false → (same_at ≡ 0) × (next ≡ here))
+    → IsSpot es key before same_at next
+
 -- ---- a record is put in its place, or taken out
+
+-- setting a pointer of the dummy or of a live record changes links alone
+abbrev pub SettingChangesLinks : Type 0
+SettingChangesLinks =
+    (old new : List ℕ) (es : List Entry) (at slot to : ℕ)
+    → IsAmong (heads_of es) at
+    → slot ≤ (head_in old at).level
+    → SetsPointer old new at slot to
+    → ChangesLinks es old new
+
+-- and so do two such steps
+abbrev pub LinkChangesJoin : Type 0
+LinkChangesJoin =
+    (first second third starts : List ℕ) (es : List Entry)
+    → HasLog first starts es (length first)
+    → ChangesLinks es first second
+    → ChangesLinks es second third
+    → ChangesLinks es first third
 
 -- Where a put record was appended before the records past its place, and the level-zero predecessor leads to it,
 -- the new list is there, and its upper levels are pending.

@@ -1,5 +1,5 @@
 // Laws of lists that change.
-ghost use Rattle.skip_lists.specs.Laws.{TwoPatchesSetAPointer, SettingIsOneWrite, OtherPointersStay, UpperPointersKeepTheLog, SettingIsPermitted, ChangesMayLead, RepairMayClear, PutBegins, DeleteBegins, LevelIsRelinked, RelinkedIsLive, RelinkingIsAllowed, LinkedImagesRecover};
+ghost use Rattle.skip_lists.specs.Laws.{TwoPatchesSetAPointer, SettingIsOneWrite, OtherPointersStay, UpperPointersKeepTheLog, SettingChangesLinks, LinkChangesJoin, NextIsTheSuccessor, FoundIsASpot, SettingIsPermitted, ChangesMayLead, RepairMayClear, PutBegins, DeleteBegins, LevelIsRelinked, RelinkedIsLive, RelinkingIsAllowed, LinkedImagesRecover};
 
 /// A pointer is set by writing it and then the head check; as a write that is one piece of the head.
 pub fn a_pointer_is_set_in_two_patches()
@@ -12,6 +12,18 @@ pub fn a_pointer_is_set_in_two_patches()
 pub fn other_pointers_stay()
     ensures pointers { OtherPointersStay }
     ensures log { UpperPointersKeepTheLog }
+{}
+
+/// Setting pointers of the dummy and of live records changes their links alone.
+pub fn setting_changes_links()
+    ensures one { SettingChangesLinks }
+    ensures join { LinkChangesJoin }
+{}
+
+/// The next live record is the first of those that are left; and what a search found is the spot of a change.
+pub fn lists_are_walked()
+    ensures next { NextIsTheSuccessor }
+    ensures spot { FoundIsASpot }
 {}
 
 /// Setting a pointer that may be set is a permitted write.

@@ -11,6 +11,6 @@ mod laws;
 
 pub use laws::{
     a_pointer_is_set_in_two_patches, appended_record_is_listed, changes_and_repair_may_set,
-    levels_are_relinked, linked_image_recovers, other_pointers_stay,
-    setting_a_pointer_is_permitted,
+    levels_are_relinked, linked_image_recovers, lists_are_walked, other_pointers_stay,
+    setting_a_pointer_is_permitted, setting_changes_links,
 };

@@ -1,15 +1,17 @@
 -- Each key has a place among live records, and a change there is one of the map.
-use Rattle.std.proofs.Common.{◌≡◌, ◌≢◌, ℕ, List, [], ◌∷◌, ◌++◌, length, Some, None, refl, sym, ap, subst, ◌∙◌, inl, inr}
-use Rattle.std.specs.Prelude.{is_some}
+use Rattle.std.proofs.Common.{◌≡◌, ◌≢◌, ℕ, Bool, true, false, List, [], ◌∷◌, ◌++◌, length, Some, None, refl, sym, ap, subst, ◌∙◌, inl, inr}
+use Rattle.std.specs.Prelude.{is_some, find, not}
+use Rattle.std.specs.Ordering.{is_lt}
+use Rattle.skip_spec.proofs.Successors.{chosen_first, chosen_second}
 use Rattle.std.specs.List.{AllByRecursion}
 use Rattle.std.specs.declared.cmp.Ordering.{Ordering}
 use Rattle.std.specs.declared.cmp.Ordering.TheVariants.{Less, Equal, Greater}
 use Rattle.std.proofs.lemmas.List.{map-append}
-use Rattle.base_bytes.specs.OrderedMap.{Map, IsBelow, BeginsAbove, IsOrderedMap, key_order, put, without, value_at}
-use Rattle.base_bytes.proofs.OrderedMaps.{EndsBelow, same_key, above_turned, some_above, no_value_before, value_behind, value_here, put_behind, put_over, put_before, without_behind, without_here, without_absent}
+use Rattle.base_bytes.specs.OrderedMap.{Map, IsBelow, BeginsAbove, IsOrderedMap, key_order, put, without, value_at, first_from, first_above}
+use Rattle.base_bytes.proofs.OrderedMaps.{EndsBelow, same_key, key_itself, below_turned, above_turned, some_above, no_value_before, value_behind, value_here, put_behind, put_over, put_before, without_behind, without_here, without_absent}
 use Rattle.skip_spec.specs.Chain.{Entry, pairs}
 use Rattle.skip_spec.specs.Change.{last_key}
-use Rattle.skip_spec.specs.Place.{Place, first_value}
+use Rattle.skip_spec.specs.Place.{Place, first_value, first_pair}
 use Rattle.skip_spec.specs.Live.{Live}
 use Rattle.skip_spec.proofs.Meanings.{chain_rises}
 
@@ -137,3 +139,59 @@ place_value es key place ordered = elim place.same_key [
 
 pub live_rises : (bytes starts : List ℕ) (es : List Entry) → Live bytes starts es → IsOrderedMap (pairs es)
 live_rises bytes starts es l = (chain_rises bytes (length bytes) starts 64 [] es l.listed.log.chain).1
+
+-- ---- the first pair from a key, and above it
+
+-- records whose pairs are not looked for
+skipped : (P : List ℕ × List ℕ → Bool) (front : List Entry) (m : Map) → AllByRecursion (λ e. P (e.key, e.value) ≡ false) front → find P (pairs front ++ m) ≡ find P m
+skipped P [] m all = refl
+skipped P (e ∷ front) m all = chosen_second (P (e.key, e.value)) (Some (e.key, e.value)) (find P (pairs front ++ m)) all.0 ∙ skipped P front m all.1
+
+-- a record whose pair is looked for
+met : (P : List ℕ × List ℕ → Bool) (e : Entry) (es : List Entry) → P (e.key, e.value) ≡ true → find P (pairs (e ∷ es)) ≡ Some (e.key, e.value)
+met P e es is = chosen_first (P (e.key, e.value)) (Some (e.key, e.value)) (find P (pairs es)) is
+
+module _ (es : List Entry) (key : List ℕ) (place : Place es key) where
+  abbrev From : List ℕ × List ℕ → Bool
+  From p = not (is_lt (key_order p.0 key))
+
+  abbrev Above : List ℕ × List ℕ → Bool
+  Above p = is_lt (key_order key p.0)
+
+  front_before : (front : List Entry) → AllByRecursion (λ e. IsBelow e.key key) front → AllByRecursion (λ e. From (e.key, e.value) ≡ false) front
+  front_before [] all = tt
+  front_before (e ∷ front) all = (ap (λ (o : Ordering). not (is_lt o)) all.0, front_before front all.1)
+
+  front_not_above : (front : List Entry) → AllByRecursion (λ e. IsBelow e.key key) front → AllByRecursion (λ e. Above (e.key, e.value) ≡ false) front
+  front_not_above [] all = tt
+  front_not_above (e ∷ front) all = (ap is_lt (below_turned e.key key all.0), front_not_above front all.1)
+
+  rest_from : (rest : List Entry) → BeginsAbove key (pairs rest) → find From (pairs rest) ≡ first_pair rest
+  rest_from [] above = refl
+  rest_from (e ∷ rest) above = met From e rest (ap (λ (o : Ordering). not (is_lt o)) (below_turned key e.key above))
+
+  rest_above : (rest : List Entry) → BeginsAbove key (pairs rest) → find Above (pairs rest) ≡ first_pair rest
+  rest_above [] above = refl
+  rest_above (e ∷ rest) above = met Above e rest (ap is_lt above)
+
+  back_from : find From (pairs (place.dropped ++ place.rest)) ≡ first_pair (place.dropped ++ place.rest)
+  back_from = elim place.same_key [
+    | inl none ↦ subst (λ (ds : List Entry). find From (pairs (ds ++ place.rest)) ≡ first_pair (ds ++ place.rest)) (sym none) (rest_from place.rest place.above)
+    | inr one ↦ subst (λ (ds : List Entry). find From (pairs (ds ++ place.rest)) ≡ first_pair (ds ++ place.rest)) (sym one.1) (met From one.0 place.rest (ap (λ (k : List ℕ). not (is_lt (key_order k key))) one.2 ∙ ap (λ (o : Ordering). not (is_lt o)) (key_itself key)))
+  ]
+
+  back_above : find Above (pairs (place.dropped ++ place.rest)) ≡ first_pair place.rest
+  back_above = elim place.same_key [
+    | inl none ↦ subst (λ (ds : List Entry). find Above (pairs (ds ++ place.rest)) ≡ first_pair place.rest) (sym none) (rest_above place.rest place.above)
+    | inr one ↦ subst (λ (ds : List Entry). find Above (pairs (ds ++ place.rest)) ≡ first_pair place.rest) (sym one.1)
+        (chosen_second (Above (one.0.key, one.0.value)) (Some (one.0.key, one.0.value)) (find Above (pairs place.rest)) (ap (λ (k : List ℕ). is_lt (key_order key k)) one.2 ∙ ap is_lt (key_itself key)) ∙ rest_above place.rest place.above)
+  ]
+
+  whole_pairs : pairs es ≡ pairs place.front ++ pairs (place.dropped ++ place.rest)
+  whole_pairs = ap pairs place.split ∙ pairs-append place.front (place.dropped ++ place.rest)
+
+  pub place_from : first_from (pairs es) key ≡ first_pair (place.dropped ++ place.rest)
+  place_from = ap (find From) whole_pairs ∙ skipped From place.front (pairs (place.dropped ++ place.rest)) (front_before place.front place.below) ∙ back_from
+
+  pub place_above : first_above (pairs es) key ≡ first_pair place.rest
+  place_above = ap (find Above) whole_pairs ∙ skipped Above place.front (pairs (place.dropped ++ place.rest)) (front_not_above place.front place.below) ∙ back_above

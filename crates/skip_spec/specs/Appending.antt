@@ -40,14 +40,18 @@ commit_record start = record { kind = Commit; level = 0; pointers = start ∷ []
 
 -- ---- a change
 
--- One record was appended. Before it only the header, which has DIRTY, and links of the dummy and of these live
--- records changed.
-pub record Appends (r : Record) (es : List Entry) (old new : List ℕ) : Type 0 where
+-- Past the header only links of the dummy and of these live records changed, and bytes were appended.
+pub record ChangesLinks (es : List Entry) (old new : List ℕ) : Type 0 where
   pub grows : length old ≤ length new
-  pub added : drop (length old) new ≡ record_bytes r
   pub others : (i : ℕ) → 64 ≤ i → i < length old
       → ((at : ℕ) → IsAmong (heads_of es) at → IsOutsideLinks old at i)
       → slice_index new i ≡ slice_index old i
+
+-- One record was appended. Before it only links of the dummy and of these live records changed, and the header has
+-- DIRTY.
+pub record Appends (r : Record) (es : List Entry) (old new : List ℕ) : Type 0 where
+  pub added : drop (length old) new ≡ record_bytes r
+  pub links : ChangesLinks es old new
   pub header : (h : Header) → IsHeader h → take 64 old ≡ header_bytes h → take 64 new ≡ header_bytes (with_dirty h)
 
 -- a live record that was put at an offset

@@ -1,7 +1,7 @@
 -- Laws of files and images.
 use Rattle.std.specs.Prelude.{◌≡◌, ◌↔◌, ◌+◌, ◌<◌, ◌≤◌, ℕ, List, [], ◌∷◌, ◌++◌, length, take, slice_index, Option, None}
 use Rattle.base_bytes.specs.Fields.{AreBytes}
-use Rattle.base_bytes.specs.OrderedMap.{Map, IsOrderedMap, IsBelow, BeginsAbove, put, without, value_at}
+use Rattle.base_bytes.specs.OrderedMap.{Map, IsOrderedMap, IsBelow, BeginsAbove, put, without, value_at, first_from, first_above}
 use Rattle.base_bytes.specs.Landing.{Lands}
 use Rattle.base_bytes.specs.declared.flaw.Damage.{Damage}
 use Rattle.skip_form.specs.declared.head.Head.{Head}
@@ -13,7 +13,7 @@ use Rattle.skip_spec.specs.Near.{Near, IsPermittedWrite}
 use Rattle.skip_spec.specs.Successor.{IsSuccessorUnder}
 use Rattle.skip_spec.specs.Chain.{Entry, Chain, StandsAsEntry, pairs}
 use Rattle.skip_spec.specs.Live.{live_under, Live, IsCommitted}
-use Rattle.skip_spec.specs.Place.{Place, first_value}
+use Rattle.skip_spec.specs.Place.{Place, first_value, first_pair}
 use Rattle.skip_spec.specs.Layout.{Item, FitsLayout, IsFresh, fresh_layout}
 use Rattle.skip_spec.specs.Recovery.{recovered}
 use Rattle.skip_spec.specs.Change.{Changes, first_at, last_at, last_key}
@@ -103,6 +103,14 @@ PlaceTells =
     (es : List Entry) (key : List ℕ) (place : Place es key)
     → IsOrderedMap (pairs es)
     → value_at (pairs es) key ≡ first_value place.dropped
+
+-- the first pair that is not below the key is that of the first record from its place on
+abbrev pub PlaceLeadsFrom : Type 0
+PlaceLeadsFrom = (es : List Entry) (key : List ℕ) (place : Place es key) → first_from (pairs es) key ≡ first_pair (place.dropped ++ place.rest)
+
+-- the first pair above the key is that of the first record past its place
+abbrev pub PlaceLeadsPast : Type 0
+PlaceLeadsPast = (es : List Entry) (key : List ℕ) (place : Place es key) → first_above (pairs es) key ≡ first_pair place.rest
 
 -- ---- of images
 

@@ -35,6 +35,11 @@ abbrev pub first_value : List Entry → Option (List ℕ)
 first_value [] = None
 first_value (e ∷ es) = Some e.value
 
+-- the pair of the first of these records
+abbrev pub first_pair : List Entry → Option (List ℕ × List ℕ)
+first_pair [] = None
+first_pair (e ∷ es) = Some (e.key, e.value)
+
 -- What a search for a key finds: the first record not below it or 0, on each level the last record below it, and
 -- whether the first has this very key.
 pub record IsFound (es : List Entry) (key : List ℕ) (here : ℕ) (before : List ℕ) (exact : Bool) : Type 0 where

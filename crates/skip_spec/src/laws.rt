@@ -1,5 +1,5 @@
 // Laws over the definitions.
-ghost use Rattle.skip_spec.specs.Laws.{OpensToOneMap, OpensToOrderedMap, HeadsStandBeforeEnd, RecordsStandBeforeEnd, FileListsAreComputed, LiveListsAreComputed, TidyFilesAreLive, LiveFilesAreTidy, LiveWhateverTheHeader, EachKeyHasAPlace, LiveKeysRise, PlacePuts, PlaceRemoves, PlaceTells, ImagesOpenAlike, LandingsStayNear, CutsStayNear, AppendsArePermitted, LayoutsAreFresh, RecoveryGivesBack, PutGivesChain, DeleteGivesChain, FirstFlawExists, FirstFlawIsUnique, FlawlessOpens};
+ghost use Rattle.skip_spec.specs.Laws.{OpensToOneMap, OpensToOrderedMap, HeadsStandBeforeEnd, RecordsStandBeforeEnd, FileListsAreComputed, LiveListsAreComputed, TidyFilesAreLive, LiveFilesAreTidy, LiveWhateverTheHeader, EachKeyHasAPlace, LiveKeysRise, PlacePuts, PlaceRemoves, PlaceTells, PlaceLeadsFrom, PlaceLeadsPast, ImagesOpenAlike, LandingsStayNear, CutsStayNear, AppendsArePermitted, LayoutsAreFresh, RecoveryGivesBack, PutGivesChain, DeleteGivesChain, FirstFlawExists, FirstFlawIsUnique, FlawlessOpens};
 
 /// A file opens to one map at most, and its keys rise strictly.
 pub fn file_opens_to_one_map()
@@ -48,6 +48,8 @@ pub fn each_key_has_a_place()
 /// At the place of a key the list gives the map's answer, and a change there is one of the map.
 pub fn places_follow_the_map()
     ensures value { PlaceTells }
+    ensures from { PlaceLeadsFrom }
+    ensures past { PlaceLeadsPast }
     ensures put { PlacePuts }
     ensures delete { PlaceRemoves }
 {}
