@@ -1,18 +1,22 @@
 -- A record was appended, and then a pointer below it was set.
-use Rattle.std.proofs.Common.{◌≡◌, ◌↔◌, ℕ, zero, suc, ◌+◌, ◌-◌, ◌*◌, ◌^◌, ◌<◌, ◌≤◌, List, [], ◌∷◌, ◌++◌, length, get_or, refl, sym, ap, subst, ◌∙◌, inr, arith, ◌⊎◌}
+use Rattle.std.proofs.Common.{◌≡◌, ◌↔◌, ℕ, zero, suc, ◌+◌, ◌-◌, ◌*◌, ◌^◌, ◌<◌, ◌≤◌, List, [], ◌∷◌, ◌++◌, length, get_or, refl, sym, ap, subst, ◌∙◌, inl, inr, arith, ◌⊎◌}
 use Rattle.std.specs.List.{AllByRecursion}
 use Rattle.std.proofs.lemmas.List.{length-append, get_or_append_left, get_or-append_right}
 use Rattle.base_bytes.specs.Fields.{AreBytes}
 use Rattle.skip_form.specs.declared.head.Head.{Head}
 use Rattle.skip_form.specs.declared.head.Kind.TheVariants.{Dummy}
 use Rattle.skip_form.specs.Fields.{pointer_in}
-use Rattle.skip_spec.specs.Near.{free_slot, free_slot_of}
+use Rattle.skip_spec.specs.Near.{free_slot, free_slot_of, IsImageOf, heads}
 use Rattle.base_bytes.specs.Fields.{u64_in}
 use Rattle.skip_form.specs.Flaws.{head_in}
 use Rattle.skip_form.specs.Spelling.{Record, IsRecord, record_bytes, head_of}
 use Rattle.skip_spec.specs.Records.{head_size_of}
 use Rattle.skip_spec.proofs.Parts.{head_in-same, part-moved, part-same}
-use Rattle.skip_lists.specs.Heads.{HasSlots, SetsPointer}
+use Rattle.skip_spec.specs.Rows.{IsAmong}
+use Rattle.skip_spec.specs.Opens.{Contents, Reads, Tidy}
+use Rattle.skip_spec.proofs.Kept.{free_slot_le}
+use Rattle.skip_lists.specs.Heads.{HasSlots, SetsPointer, MaySet}
+use Rattle.skip_lists.proofs.Permitted.{free_kept}
 use Rattle.skip_spec.specs.Spelled.{IsSpelled}
 use Rattle.skip_spec.proofs.SpelledRecords.{length-record}
 use Rattle.skip_lists.proofs.Setting.{whole_part}
@@ -80,3 +84,13 @@ module _ (b b1 c : List ℕ) (r : Record) (p k to : ℕ) (is_1 : b1 ≡ b ++ rec
     inside = omega (arith, long_c);
     place = place;
   }
+
+-- the slot that was free before the append may be led to what was appended
+pub may_place : (base b mid added : List ℕ) (says : Contents) (at to : ℕ) → Reads base says → Tidy base says → IsImageOf base says b → HasSlots b at → mid ≡ b ++ added → (at < says.header.current_size → IsAmong (heads says) at) → says.header.current_size ≤ to → MaySet base says mid at (free_slot_of b says.header.current_size at) to
+may_place base b mid added says at to r tidy n there is known past =
+    let same : (head_in mid at).level ≡ (head_in b at).level = ap (λ (l : List ℕ). (head_in l at).level) is ∙ ap (λ (h : Head). h.level) (head_grown b added at there) in
+    record {
+      inside = omega (arith, same, there.low, free_slot_le says.header.current_size (pointer_in b at 0) (pointer_in b at 1));
+      known = known;
+      which = λ lt. inr (inl (free_kept base says r b n tidy at (known lt), inr (inr past)));
+    }

@@ -103,14 +103,6 @@ module _ (base : List ℕ) (f : Contents) (r : Reads base f) where
 
     -- ---- what may be set
 
-    -- a change leads a head's free slot to the end or past it
-    pub may_lead : Tidy base f → (p to : ℕ) → 1 ≤ (head_in b p).level → (p < C → IsAmong (heads f) p) → C ≤ to → MaySet base f b p (free_slot_of b C p) to
-    may_lead t p to low known past = record {
-      inside = omega (arith, low, free_slot_le C (pointer_in b p 0) (pointer_in b p 1));
-      known = known;
-      which = λ lt. inr (inl (free_kept t p (known lt), inr (inr past)));
-    }
-
     -- a repair makes a slot 0 that points to the end or past it
     pub may_clear : (p slot : ℕ) → slot ≤ 1 → 1 ≤ (head_in b p).level → (p < C → IsAmong (heads f) p) → C ≤ pointer_in b p slot → MaySet base f b p slot 0
     may_clear p slot small low known far = record {

@@ -89,17 +89,19 @@ SettingIsPermitted =
     → length new ≡ length old
     → IsPermittedWrite base says at (part new at (head_size_of (head_in old at) - 4))
 
--- a change may lead the slot of a head that is free in its own bytes to the committed end or past it
+-- A change may lead the slot of a head that was free in its bytes before it appended some, to the committed end or
+-- past it.
 abbrev pub ChangesMayLead : Type 0
 ChangesMayLead =
-    (base image : List ℕ) (says : Contents) (at to : ℕ)
+    (base image grown added : List ℕ) (says : Contents) (at to : ℕ)
     → opens.Reads base says
     → Tidy base says
     → IsImageOf base says image
-    → 1 ≤ (head_in image at).level
+    → HasSlots image at
+    → grown ≡ image ++ added
     → (at < says.header.current_size → IsAmong (heads says) at)
     → says.header.current_size ≤ to
-    → MaySet base says image at (free_slot_of image says.header.current_size at) to
+    → MaySet base says grown at (free_slot_of image says.header.current_size at) to
 
 -- a repair may clear a level-zero slot that points to the committed end or past it, also over a dirty base
 abbrev pub RepairMayClear : Type 0
