@@ -1,10 +1,11 @@
 -- A tie under permitted writes.
 use Rattle.std.proofs.Common.{◌≡◌, ℕ, ◌+◌, ◌-◌, ◌++◌, List, length, take, drop, refl, sym, ap, subst, ◌∙◌, arith, Option}
 use Rattle.std.proofs.lemmas.List.{take_all, drop_all, drop_at, append-nil, length-append}
+use Rattle.base_bytes.specs.OrderedMap.{Map}
 use Rattle.base_bytes.specs.Fields.{part}
 use Rattle.base_bytes.specs.Landing.{written_at, Lands}
 use Rattle.base_bytes.proofs.Landings.{lands_whole}
-use Rattle.base_devices.specs.CrashImages.{Image, DiskState, GoesOn, LeavesOnly, Shows, Reads}
+use Rattle.base_devices.specs.CrashImages.{Image, DiskState, IsMoment, GoesOn, Shows, Reads}
 use Rattle.base_devices.specs.DiskCalls.{DiskCall, OnFile, Follows, with_bytes}
 use Rattle.base_devices.proofs.Moments.{each_then, first_call}
 use Rattle.skip_form.specs.Flaws.{head_in}
@@ -42,6 +43,10 @@ module _ (base b : List ℕ) (says : Contents) (s : DiskState) (t : Tied base sa
       let old = all from.0 from.1 in
       let step = subst (λ (d : Image). OnFile (λ b c. Lands b at bytes c) d c) old.1 from.2 in
       (step.0, step.1, landing_near base old.0 step.0 says at bytes t.committed old.2.0 old.2.1 w step.2)
+
+  -- before any call
+  pub still_leaves : IsMoment s → LeavesMap (pairs says.chain) s s
+  still_leaves moment = record { each = λ i n left. let p = moment.now i n left in (p.1, left_opens i (t.left i p.0)) }
 
   -- one permitted write
   pub write_moments : (y : DiskState) (at : ℕ) (bytes : List ℕ) → IsPermittedWrite base says at bytes → DiskCall s y → Follows (λ b c. Lands b at bytes c) s y → LeavesMap (pairs says.chain) s y
@@ -98,7 +103,6 @@ module _ (base b added c : List ℕ) (says : Contents) (s : DiskState) (t : Tied
   append_tied y follows reads = write_tied base b says s t y at bytes c past_end append_own follows reads
 
 -- two runs of calls, one after the other
-pub then_run : (a b d : DiskState) (Q : Image → Type 0) → GoesOn a b → GoesOn b d → b.mark ≡ a.mark
-    → LeavesOnly a b (λ c n. (n ≡ a.mark) × Q c) → LeavesOnly b d (λ c n. (n ≡ b.mark) × Q c) → LeavesOnly a d (λ c n. (n ≡ a.mark) × Q c)
-then_run a b d Q ab bd mark first second = each_then a b d (λ c n. (n ≡ a.mark) × Q c) ab bd first
+pub then_leaves : (m : Map) (a b d : DiskState) → GoesOn a b → GoesOn b d → b.mark ≡ a.mark → LeavesMap m a b → LeavesMap m b d → LeavesMap m a d
+then_leaves m a b d ab bd mark first second = each_then a b d (λ c n. (n ≡ a.mark) × OnBytes (λ file. Opens file m) c) ab bd first
     (record { each = λ c n left. let x = second.each c n left in (x.0 ∙ mark, x.1) })
