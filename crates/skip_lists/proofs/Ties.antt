@@ -22,7 +22,7 @@ use Rattle.skip_lists.proofs.Permitted.{set_permitted}
 use Rattle.skip_lists.proofs.Setting.{set_as_written}
 
 -- what a disk reads after a write
-pub reads_written : (x y : DiskState) (at : ℕ) (bytes b : List ℕ) → Reads x b → y.reads ≡ with_bytes (written_at at bytes) x.reads → Reads y (written_at at bytes b)
+pub reads_written : (x y : Option Image) (at : ℕ) (bytes b : List ℕ) → x ≡ Some (Some b) → y ≡ with_bytes (written_at at bytes) x → y ≡ Some (Some (written_at at bytes b))
 reads_written x y at bytes b is e = e ∙ ap (λ (o : Option Image). with_bytes (written_at at bytes) o) is
 
 module _ (base b : List ℕ) (says : Contents) (s : DiskState) (t : Tied base says b s) where
