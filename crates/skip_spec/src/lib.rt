@@ -1,6 +1,9 @@
-//! What a twoskip file means: which map it stands for, when it opens, and which images an unfinished
-//! transaction may leave of it. There are definitions and laws here, and no program. Each law is the
-//! contract of a function with an empty body.
+//! What a twoskip file means, for all levels, clean or with DIRTY. There are definitions and laws here,
+//! and no program: each law is the contract of a function with an empty body. README.md lists the
+//! definitions in reading order.
+//!
+//! - `laws`: laws of files, live records, places, images, changes and the fresh layout.
+//! - `examples`: files by their bytes, with check words from outside.
 #![tactic(auto)]
 
 mod examples;
