@@ -21,6 +21,7 @@ pub mod PlaceLemmas
 pub mod Places
 pub mod Pointers
 pub mod RecordBytes
+pub mod RepackLemmas
 pub mod SameLog
 pub mod SpelledRecords
 pub mod Splice

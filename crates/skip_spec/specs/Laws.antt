@@ -1,5 +1,6 @@
 -- Laws of files and images.
-use Rattle.std.specs.Prelude.{◌≡◌, ◌↔◌, ◌+◌, ◌<◌, ◌≤◌, ℕ, List, [], ◌∷◌, ◌++◌, length, take, slice_index, Option, None}
+use Rattle.std.specs.Prelude.{◌≡◌, ◌↔◌, ◌+◌, ◌^◌, ◌<◌, ◌≤◌, ℕ, List, [], ◌∷◌, ◌++◌, length, take, slice_index, Option, None}
+use Rattle.std.specs.List.{AllByRecursion}
 use Rattle.base_bytes.specs.Fields.{AreBytes}
 use Rattle.base_bytes.specs.OrderedMap.{Map, IsOrderedMap, IsBelow, BeginsAbove, put, without, value_at, first_from, first_above}
 use Rattle.base_bytes.specs.Landing.{Lands}
@@ -14,7 +15,7 @@ use Rattle.skip_spec.specs.Successor.{IsSuccessorUnder}
 use Rattle.skip_spec.specs.Chain.{Entry, Chain, StandsAsEntry, pairs}
 use Rattle.skip_spec.specs.Live.{live_under, Live, IsCommitted}
 use Rattle.skip_spec.specs.Place.{Place, first_value, first_pair}
-use Rattle.skip_spec.specs.Layout.{Item, FitsLayout, IsFresh, fresh_layout}
+use Rattle.skip_spec.specs.Layout.{Item, IsPair, FitsLayout, IsFresh, fresh_layout, fresh_size, items_of, with_words, Converted, Repacked}
 use Rattle.skip_spec.specs.Recovery.{recovered}
 use Rattle.skip_spec.specs.Change.{Changes, first_at, last_at, last_key}
 
@@ -152,6 +153,27 @@ AppendsArePermitted =
 -- the layout of an ordered map that fits it is a tidy file of this map, with these levels
 abbrev pub LayoutsAreFresh : Type 0
 LayoutsAreFresh = (generation flags : ℕ) (items : List Item) → FitsLayout generation flags items → IsFresh generation flags items (fresh_layout generation flags items)
+
+-- a file that a conversion wrote opens to the map
+abbrev pub ConvertedFilesOpen : Type 0
+ConvertedFilesOpen =
+    (m : Map) (words file : List ℕ)
+    → Converted m words file
+    → IsOrderedMap m
+    → BeginsAbove [] m
+    → AllByRecursion (λ p. IsPair p.0 p.1) m
+    → fresh_size (with_words m words) < 2 ^ 64
+    → Opens file m
+
+-- a file that a repack wrote opens to the old one's map
+abbrev pub RepackedFilesOpen : Type 0
+RepackedFilesOpen =
+    (old file : List ℕ) (m : Map)
+    → AreBytes old
+    → Opens old m
+    → Repacked old file
+    → ((says : Contents) → Reads old says → fresh_size (items_of says.chain) < 2 ^ 64)
+    → Opens file m
 
 -- ---- of recovery
 

@@ -136,6 +136,13 @@ pub record IsFresh (generation flags : ℕ) (items : List Item) (file : List ℕ
 
 -- ---- conversion and repack
 
+-- a pair that fits a record
+pub record IsPair (key value : List ℕ) : Type 0 where
+  pub key_bytes : AreBytes key
+  pub value_bytes : AreBytes value
+  pub key_fits : length key < 65535
+  pub value_fits : length value < 4294967295
+
 -- the file is the layout of the map, with levels by these words, one for each pair
 abbrev pub Converted : Map → List ℕ → List ℕ → Type 0
 Converted m words file = (length words ≡ length m) × (file ≡ fresh_layout 1 0 (with_words m words))

@@ -1,5 +1,5 @@
 // Laws over the definitions.
-ghost use Rattle.skip_spec.specs.Laws.{OpensToOneMap, OpensToOrderedMap, HeadsStandBeforeEnd, RecordsStandBeforeEnd, FileListsAreComputed, LiveListsAreComputed, TidyFilesAreLive, LiveFilesAreTidy, LiveWhateverTheHeader, EachKeyHasAPlace, LiveKeysRise, PlacePuts, PlaceRemoves, PlaceTells, PlaceLeadsFrom, PlaceLeadsPast, ImagesOpenAlike, LandingsStayNear, CutsStayNear, AppendsArePermitted, LayoutsAreFresh, RecoveryGivesBack, PutGivesChain, DeleteGivesChain, FirstFlawExists, FirstFlawIsUnique, FlawlessOpens};
+ghost use Rattle.skip_spec.specs.Laws.{OpensToOneMap, OpensToOrderedMap, HeadsStandBeforeEnd, RecordsStandBeforeEnd, FileListsAreComputed, LiveListsAreComputed, TidyFilesAreLive, LiveFilesAreTidy, LiveWhateverTheHeader, EachKeyHasAPlace, LiveKeysRise, PlacePuts, PlaceRemoves, PlaceTells, PlaceLeadsFrom, PlaceLeadsPast, ImagesOpenAlike, LandingsStayNear, CutsStayNear, AppendsArePermitted, LayoutsAreFresh, ConvertedFilesOpen, RepackedFilesOpen, RecoveryGivesBack, PutGivesChain, DeleteGivesChain, FirstFlawExists, FirstFlawIsUnique, FlawlessOpens};
 
 /// A file opens to one map at most, and its keys rise strictly.
 pub fn file_opens_to_one_map()
@@ -57,6 +57,12 @@ pub fn places_follow_the_map()
 /// The fresh layout of an ordered map is a tidy file of this map, and of the levels that were given.
 pub fn fresh_layout_is_tidy()
     ensures { LayoutsAreFresh }
+{}
+
+/// Conversion writes a file that opens to the map, and repack one that opens to the old file's, where the size fits.
+pub fn layouts_keep_the_map()
+    ensures converted { ConvertedFilesOpen }
+    ensures repacked { RepackedFilesOpen }
 {}
 
 /// What recovery makes of an image of a tidy file is what the file said.

@@ -16,7 +16,8 @@ pub use examples::{
 };
 pub use laws::{
     appends_are_permitted, changes_give_the_list, each_key_has_a_place, file_has_one_first_flaw,
-    file_opens_to_one_map, flawless_file_opens, fresh_layout_is_tidy, live_records_are_computed,
-    near_images_open_alike, permitted_writes_stay_near, places_follow_the_map,
-    records_end_before_the_end, recovery_gives_back_a_tidy_file, tidy_files_are_live,
+    file_opens_to_one_map, flawless_file_opens, fresh_layout_is_tidy, layouts_keep_the_map,
+    live_records_are_computed, near_images_open_alike, permitted_writes_stay_near,
+    places_follow_the_map, records_end_before_the_end, recovery_gives_back_a_tidy_file,
+    tidy_files_are_live,
 };
