@@ -1,5 +1,5 @@
 -- A tie under permitted writes.
-use Rattle.std.proofs.Common.{Some, ◌≡◌, ℕ, ◌+◌, ◌-◌, ◌++◌, List, length, take, drop, refl, sym, ap, subst, ◌∙◌, arith, Option}
+use Rattle.std.proofs.Common.{Some, ◌≡◌, ℕ, ◌+◌, ◌-◌, ◌++◌, List, length, take, drop, refl, sym, ap, subst, ◌∙◌, inr, true, arith, Option}
 use Rattle.std.proofs.lemmas.List.{take_all, drop_all, drop_at, append-nil, length-append}
 use Rattle.base_bytes.specs.OrderedMap.{Map}
 use Rattle.base_bytes.specs.Fields.{part}
@@ -17,7 +17,7 @@ use Rattle.skip_spec.proofs.Cuts.{dirty_image, append_permitted}
 use Rattle.skip_spec.proofs.Landed.{landing_near}
 use Rattle.skip_spec.proofs.Meanings.{opens_alike}
 use Rattle.skip_lists.specs.Heads.{HasSlots, SetsPointer, MaySet}
-use Rattle.skip_lists.specs.Tie.{OnBytes, IsLeft, Tied, LeavesMap}
+use Rattle.skip_lists.specs.Tie.{OnBytes, IsLeft, TiedToBase, TiedBy, LeavesMap}
 use Rattle.skip_lists.proofs.Permitted.{set_permitted}
 use Rattle.skip_lists.proofs.Setting.{set_as_written}
 
@@ -25,7 +25,7 @@ use Rattle.skip_lists.proofs.Setting.{set_as_written}
 pub reads_written : (x y : Option Image) (at : ℕ) (bytes b : List ℕ) → x ≡ Some (Some b) → y ≡ with_bytes (written_at at bytes) x → y ≡ Some (Some (written_at at bytes b))
 reads_written x y at bytes b is e = e ∙ ap (λ (o : Option Image). with_bytes (written_at at bytes) o) is
 
-module _ (base b : List ℕ) (says : Contents) (s : DiskState) (t : Tied base says b s) where
+module _ (base b : List ℕ) (says : Contents) (s : DiskState) (t : TiedToBase base says b s) where
   pub image_of : IsImageOf base says b
   image_of = dirty_image base says t.committed b t.own.0 t.own.1
 
@@ -52,7 +52,7 @@ module _ (base b : List ℕ) (says : Contents) (s : DiskState) (t : Tied base sa
   pub write_moments : (y : DiskState) (at : ℕ) (bytes : List ℕ) → IsPermittedWrite base says at bytes → DiskCall s y → Follows (λ b c. Lands b at bytes c) s y → LeavesMap (pairs says.chain) s y
   write_moments y at bytes w call follows = first_call s y (OnBytes (λ file. Opens file (pairs says.chain))) call (λ i left. left_opens i (t.left i left)) (λ i left. left_opens i (left_after s y at bytes follows w t.left i left))
 
-  pub write_tied : (y : DiskState) (at : ℕ) (bytes new : List ℕ) → IsPermittedWrite base says at bytes → new ≡ written_at at bytes b → Follows (λ b c. Lands b at bytes c) s y → (Shows y → Reads y new) → Tied base says new y
+  pub write_tied : (y : DiskState) (at : ℕ) (bytes new : List ℕ) → IsPermittedWrite base says at bytes → new ≡ written_at at bytes b → Follows (λ b c. Lands b at bytes c) s y → (Shows y → Reads y new) → TiedToBase base says new y
   write_tied y at bytes new w is follows reads = record {
     committed = t.committed;
     sound = t.sound;
@@ -61,9 +61,19 @@ module _ (base b : List ℕ) (says : Contents) (s : DiskState) (t : Tied base sa
     left = left_after s y at bytes follows w t.left;
   }
 
+-- a session that has changed something is tied to its base
+pub tied_to_base : (base bytes : List ℕ) (says : Contents) (s : DiskState) → TiedBy base says bytes true s → TiedToBase base says bytes s
+tied_to_base base bytes says s t = record {
+  committed = t.committed;
+  sound = inr t.tidy;
+  own = t.own;
+  reads = t.reads;
+  left = λ c is. let x = t.left c is in (x.0, x.1, x.2.0);
+}
+
 -- ---- a pointer is set and its head written
 
-module _ (base b c : List ℕ) (says : Contents) (s : DiskState) (t : Tied base says b s) (p slot to : ℕ) (there : HasSlots b p) (may : MaySet base says b p slot to) (sets : SetsPointer b c p slot to) (long : length c ≡ length b)
+module _ (base b c : List ℕ) (says : Contents) (s : DiskState) (t : TiedToBase base says b s) (p slot to : ℕ) (there : HasSlots b p) (may : MaySet base says b p slot to) (sets : SetsPointer b c p slot to) (long : length c ≡ length b)
     (bytes : List ℕ) (is : bytes ≡ part c p (head_size_of (head_in b p) - 4)) where
   permitted : IsPermittedWrite base says p bytes
   permitted = subst (λ (x : List ℕ). IsPermittedWrite base says p x) (sym is) (set_permitted base b c says t.committed (image_of base b says s t) p slot to there may sets long)
@@ -71,7 +81,7 @@ module _ (base b c : List ℕ) (says : Contents) (s : DiskState) (t : Tied base 
   pub pointer_moments : (y : DiskState) → DiskCall s y → Follows (λ b c. Lands b p bytes c) s y → LeavesMap (pairs says.chain) s y
   pointer_moments y call follows = write_moments base b says s t y p bytes permitted call follows
 
-  pub pointer_tied : (y : DiskState) → Follows (λ b c. Lands b p bytes c) s y → (Shows y → Reads y c) → Tied base says c y
+  pub pointer_tied : (y : DiskState) → Follows (λ b c. Lands b p bytes c) s y → (Shows y → Reads y c) → TiedToBase base says c y
   pointer_tied y follows reads = write_tied base b says s t y p bytes c permitted (set_as_written b c p slot to there may.inside sets long ∙ ap (λ (x : List ℕ). written_at p x b) (sym is)) follows reads
 
 -- ---- a record is appended
@@ -89,7 +99,7 @@ added_part b added c at n e is count =
     let long : n ≡ length added = omega (arith, count, is, ap length e, length-append b added) in
     ap (λ (l : List ℕ). take n (drop at l)) e ∙ ap (take n) (drop_at b added at (sym is)) ∙ take_all n added (omega (arith, long))
 
-module _ (base b added c : List ℕ) (says : Contents) (s : DiskState) (t : Tied base says b s) (is_c : c ≡ b ++ added) (at : ℕ) (is_at : at ≡ length b) (bytes : List ℕ) (is : bytes ≡ added) where
+module _ (base b added c : List ℕ) (says : Contents) (s : DiskState) (t : TiedToBase base says b s) (is_c : c ≡ b ++ added) (at : ℕ) (is_at : at ≡ length b) (bytes : List ℕ) (is : bytes ≡ added) where
   past_end : IsPermittedWrite base says at bytes
   past_end = append_permitted base says at bytes t.committed (let i = image_of base b says s t in omega (arith, i.long, is_at))
 
@@ -99,7 +109,7 @@ module _ (base b added c : List ℕ) (says : Contents) (s : DiskState) (t : Tied
   pub append_moments : (y : DiskState) → DiskCall s y → Follows (λ b c. Lands b at bytes c) s y → LeavesMap (pairs says.chain) s y
   append_moments y call follows = write_moments base b says s t y at bytes past_end call follows
 
-  pub append_tied : (y : DiskState) → Follows (λ b c. Lands b at bytes c) s y → (Shows y → Reads y c) → Tied base says c y
+  pub append_tied : (y : DiskState) → Follows (λ b c. Lands b at bytes c) s y → (Shows y → Reads y c) → TiedToBase base says c y
   append_tied y follows reads = write_tied base b says s t y at bytes c past_end append_own follows reads
 
 -- two runs of calls, one after the other
