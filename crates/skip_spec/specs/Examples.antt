@@ -6,6 +6,7 @@ use Rattle.base_bytes.specs.OrderedMap.{Map}
 use Rattle.base_bytes.specs.declared.flaw.Flaw.TheVariants.{Order}
 use Rattle.base_bytes.specs.declared.flaw.Damage.{Damage}
 use Rattle.skip_spec.specs.Chain.{Entry}
+use Rattle.skip_spec.specs.Change.{Changes}
 use Rattle.skip_spec.specs.Layout.{Item}
 
 -- ---- parts
@@ -126,6 +127,10 @@ stored_image =
     ++ put_bytes 1 (0 ∷ 0 ∷ []) (codes "a") (codes "b") 0x540B03C5 0x654A2280
     ++ commit_bytes 336 0x5DC51C1A
     ++ put_bytes 1 (336 ∷ 0 ∷ []) (codes "0") (codes "1") 0xC99B298D 0xEEFB22F2
+
+-- the store as a change: its list is read under 400 before and under 440 after it, and no record was dropped
+abbrev pub StoreChanges : Type 0
+StoreChanges = Changes one_pair_file stored_image 400 440 400 (336 ∷ 376 ∷ []) (336 ∷ 376 ∷ 400 ∷ []) [] [] (pair_a ∷ [])
 
 -- the same, where of the dummy's head only the check word has landed
 abbrev pub torn_image : List ℕ

@@ -1,7 +1,6 @@
 // Files that the definitions say something of.
 ghost use Rattle.std.specs.Prelude.{◌≡◌, [], ◌∷◌, take, Some};
-ghost use Rattle.skip_spec.specs.Change.{Changes};
-ghost use Rattle.skip_spec.specs.Examples.{circular_file, circular_flaw, deleted_file, empty_file, first_store_image, one_item, one_pair, one_pair_file, one_pair_layout, pair_a, stored_image, torn_image, two_items, two_levels_file, two_levels_layout, two_pairs};
+ghost use Rattle.skip_spec.specs.Examples.{circular_file, circular_flaw, deleted_file, empty_file, first_store_image, one_item, one_pair, one_pair_file, one_pair_layout, StoreChanges, stored_image, torn_image, two_items, two_levels_file, two_levels_layout, two_pairs};
 ghost use Rattle.skip_spec.specs.FirstFlaw.{FirstFlaw};
 ghost use Rattle.skip_spec.specs.Layout.{fresh_layout};
 ghost use Rattle.skip_spec.specs.Near.{Near};
@@ -13,7 +12,8 @@ pub fn one_pair_file_opens()
     ensures { Opens one_pair_file one_pair }
 {}
 
-/// A file of 440 bytes, with right check words, whose list is a circle: the first flaw is `Order` at 336.
+/// A file of 440 bytes, with right check words, whose list is a circle: the first flaw is `Order`
+/// at 336.
 pub fn circular_file_has_its_flaw()
     ensures { FirstFlaw circular_file (Some circular_flaw) }
 {}
@@ -28,8 +28,9 @@ pub fn two_levels_file_opens()
     ensures { Opens two_levels_file two_pairs }
 {}
 
-/// What a stop left of a store of `0` = `1` over the file of 400 bytes, whole or with a head whose check word has
-/// landed alone, opens to the committed pair, and is near that file; also where it is cut to 400 bytes.
+/// What a stop left of a store of `0` = `1` over the file of 400 bytes, whole or with a head whose
+/// check word has landed alone, opens to the committed pair, and is near that file; also where it
+/// is cut to 400 bytes.
 pub fn images_of_a_store_open()
     ensures whole { Opens stored_image one_pair }
     ensures torn { Opens torn_image one_pair }
@@ -43,9 +44,10 @@ pub fn first_store_takes_slot_1()
     ensures { Near empty_file first_store_image }
 {}
 
-/// A real store is a change: the dummy leads to the record at 400, and all else of the file of 400 bytes stays.
+/// A real store is a change: the dummy leads to the record at 400, and all else of the file of 400
+/// bytes stays.
 pub fn a_store_is_a_change()
-    ensures { Changes one_pair_file stored_image 400 440 400 (336 ∷ 376 ∷ []) (336 ∷ 376 ∷ 400 ∷ []) [] [] (pair_a ∷ []) }
+    ensures { StoreChanges }
 {}
 
 /// Three fresh layouts by their bytes: of levels 2 and 1, of one pair, of no pair.
@@ -55,8 +57,8 @@ pub fn fresh_layouts_have_these_bytes()
     ensures empty { fresh_layout 1 0 [] ≡ empty_file }
 {}
 
-/// How many pointers a search may read, counted by hand: without records; for the second of two, of levels 2 and
-/// 1; past three of level 1; past four of levels 3, 1, 2 and 1.
+/// How many pointers a search may read, counted by hand: without records; for the second of two, of
+/// levels 2 and 1; past three of level 1; past four of levels 3, 1, 2 and 1.
 pub fn search_bounds_are_these()
     ensures no_records { search_bound [] 0 ≡ 32 }
     ensures second_of_two { search_bound (2 ∷ 1 ∷ []) 1 ≡ 33 }

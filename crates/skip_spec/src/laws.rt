@@ -24,15 +24,15 @@ pub fn records_end_before_the_end()
     ensures records { RecordsStandBeforeEnd }
 {}
 
-/// The live records under an end, of a file and of the bytes of a transaction, are those that a function of the
-/// bytes gives.
+/// The live records under an end, of a file and of the bytes of a transaction, are those that a
+/// function of the bytes gives.
 pub fn live_records_are_computed()
     ensures file { FileListsAreComputed }
     ensures live { LiveListsAreComputed }
 {}
 
-/// The records of a tidy file are live; and where records are live under a right header that names their end and
-/// their number, the file is tidy. The header says nothing else of them.
+/// The records of a tidy file are live; and where records are live under a right header that names
+/// their end and their number, the file is tidy. The header says nothing else of them.
 pub fn tidy_files_are_live()
     ensures live { TidyFilesAreLive }
     ensures back { LiveFilesAreTidy }
@@ -54,12 +54,14 @@ pub fn places_follow_the_map()
     ensures delete { PlaceRemoves }
 {}
 
-/// The fresh layout of an ordered map is a tidy file of this map, and of the levels that were given.
+/// The fresh layout of an ordered map is a tidy file of this map, and of the levels that were
+/// given.
 pub fn fresh_layout_is_tidy()
     ensures { LayoutsAreFresh }
 {}
 
-/// Conversion writes a file that opens to the map, and repack one that opens to the old file's, where the size fits.
+/// Conversion writes a file that opens to the map, and repack one that opens to the old file's,
+/// where the size fits.
 pub fn layouts_keep_the_map()
     ensures converted { ConvertedFilesOpen }
     ensures repacked { RepackedFilesOpen }
@@ -75,8 +77,9 @@ pub fn near_images_open_alike()
     ensures { ImagesOpenAlike }
 {}
 
-/// An image of an unfinished transaction stays one where a permitted write lands on it, each aligned line of
-/// 64 bytes whole or not at all, and where it is cut, but not below the committed end.
+/// An image of an unfinished transaction stays one where a permitted write lands on it, each
+/// aligned line of 64 bytes whole or not at all, and where it is cut, but not below the committed
+/// end.
 pub fn permitted_writes_stay_near()
     ensures landings { LandingsStayNear }
     ensures cuts { CutsStayNear }
@@ -87,8 +90,9 @@ pub fn appends_are_permitted()
     ensures { AppendsArePermitted }
 {}
 
-/// The list after a put is the records before the key's place, the new one and those after it; after a delete
-/// it is the records before the deleted one and those after it. So it is for all levels.
+/// The list after a put is the records before the key's place, the new one and those after it;
+/// after a delete it is the records before the deleted one and those after it. So it is for all
+/// levels.
 pub fn changes_give_the_list()
     ensures put { PutGivesChain }
     ensures delete { DeleteGivesChain }
