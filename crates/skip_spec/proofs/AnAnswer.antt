@@ -1,21 +1,26 @@
 -- Verification has an answer for each file.
-use Rattle.std.proofs.Common.{◌≡◌, ◌≢◌, ℕ, zero, suc, ◌+◌, ◌<◌, ◌≤◌, Bool, true, false, cond, eqb, List, [], ◌∷◌, Option, Some, None, refl, sym, ap, subst, ◌∙◌, inl, inr, arith, ◌⊎◌}
+use Rattle.std.proofs.Common.{◌≡◌, ◌≢◌, ℕ, zero, suc, ◌+◌, ◌<◌, ◌≤◌, Bool, true, false, cond, eqb, List, [], ◌∷◌, length, Option, Some, None, refl, sym, ap, subst, ◌∙◌, inl, inr, arith, ◌⊎◌}
 use Rattle.std.specs.Prelude.{◌||◌}
 use Rattle.std.specs.Ordering.{nat_cmp, is_lt, ordering_reverse}
 use Rattle.std.specs.Cmp.Lexicographic.{slice_cmp, nat_list_cmp_total}
 use Rattle.std.specs.declared.cmp.Ordering.{Ordering}
 use Rattle.std.specs.declared.cmp.Ordering.TheVariants.{Less, Equal, Greater}
 use Rattle.std.proofs.lemmas.Bool.{cases_lt, cases_eq, eqb-true, ne_eqb, leb-true}
+use Rattle.std.proofs.lemmas.List.{length-take}
 use Rattle.base_bytes.specs.OrderedMap.{IsBelow}
 use Rattle.base_bytes.specs.declared.flaw.Flaw.{Flaw}
 use Rattle.base_bytes.specs.declared.flaw.Damage.{Damage}
 use Rattle.skip_form.specs.declared.head.Kind.TheVariants.{Gone}
 use Rattle.skip_form.specs.Fields.{pointer_in}
-use Rattle.skip_form.specs.Flaws.{head_in}
+use Rattle.skip_form.specs.declared.head.Head.{Head}
+use Rattle.skip_form.specs.Flaws.{head_flaw, head_in}
+use Rattle.skip_form.proofs.HeadLemmas.{head_inside}
+use Rattle.skip_spec.proofs.BeforeEnd.{same_head}
 use Rattle.skip_spec.specs.Records.{key_in}
 use Rattle.skip_spec.specs.Rows.{IsAmong}
-use Rattle.skip_spec.specs.Chain.{Entry}
-use Rattle.skip_spec.specs.FirstFlaw.{unless, first_some, end_of, is_of, is_among, is_below, row_checks, row_flaw, front_checks, front_flaw, dummy_flaw, delete_checks, delete_flaw, pointer_checks, pointer_flaw, pointer_under_end, way_checks, way_flaw, live_checks, live_flaw, end_flaw, next_checks, next_flaw, successor, latest, latest_key, entry_at, RightRows, RightLive, InChain, FromDummy, FromRows, FirstFlaw}
+use Rattle.skip_spec.specs.Chain.{Entry, entry_at}
+use Rattle.skip_spec.specs.Successor.{is_of, successor_under}
+use Rattle.skip_spec.specs.FirstFlaw.{unless, first_some, end_of, is_among, is_below, before_end, at_place, row_flaw, front_checks, front_flaw, dummy_flaw, delete_checks, delete_flaw, pointer_checks, pointer_flaw, pointer_under_end, way_checks, way_flaw, live_checks, live_flaw, end_flaw, next_checks, next_flaw, successor, latest, latest_key, RightRows, RightLive, InChain, FromDummy, FromRows, FirstFlaw}
 
 -- ---- checks in a row
 
@@ -46,11 +51,19 @@ among (s ∷ ss) v e = elim (or_some (eqb s v) (is_among ss v) e) [ inl same ↦
 
 -- ---- rows
 
-row_fits : (file : List ℕ) (at : ℕ) → row_flaw file at ≡ None → at + (head_in file at).size ≤ end_of file
+pub no_row_flaw : (file : List ℕ) (at : ℕ) → row_flaw file at ≡ None → head_flaw (before_end file) at ≡ None
 unfolding row_flaw
+no_row_flaw file at e = nothing (head_flaw (before_end file) at) e
+  where
+    nothing : (x : Option Flaw) → at_place at x ≡ None → x ≡ None
+    nothing None e = refl
+    nothing (Some f) e = absurd (let h : Some (record { at = at; check = f }) ≡ None = e in cc)
+
+pub row_fits : (file : List ℕ) (at : ℕ) → row_flaw file at ≡ None → at + (head_in file at).size ≤ end_of file
 row_fits file at e =
-    let all = all_none (row_checks file at) e in
-    leb-true (at + (head_in file at).size) (end_of file) (holds _ at _ all.1.1.1.1.1.0)
+    let fits = head_inside (before_end file) at (no_row_flaw file at e) in
+    let same = same_head file (end_of file) at (omega (arith, fits)) in
+    omega (arith, subst (λ (h : Head). at + h.size ≤ length (before_end file)) same fits, length-take (end_of file) file)
 
 -- right rows from here on, up to a flaw or to the end
 abbrev RowsFrom : List ℕ → ℕ → Type 0
@@ -120,7 +133,7 @@ rank_le : (file k l : List ℕ) (ss : List ℕ) → IsBelow k l → rank file l 
 rank_le file k l [] p = omega arith
 rank_le file k l (s ∷ ss) p = no_more (is_below l (key_in file s)) (is_below k (key_in file s)) _ _ (then_below k l (key_in file s) p) (rank_le file k l ss p)
 
-rank_lt : (file k : List ℕ) (ss : List ℕ) (v : ℕ) → IsBelow k (key_in file v) → IsAmong ss v → rank file (key_in file v) ss < rank file k ss
+pub rank_lt : (file k : List ℕ) (ss : List ℕ) (v : ℕ) → IsBelow k (key_in file v) → IsAmong ss v → rank file (key_in file v) ss < rank file k ss
 rank_lt file k [] v p m = absurd m
 rank_lt file k (s ∷ ss) v p (inl e) =
     one_fewer (is_below (key_in file v) (key_in file s)) (is_below k (key_in file s)) _ _
@@ -150,7 +163,7 @@ leads file starts at pointer false gone e g flaw some =
     to true g some m d = past_delete file starts pointer (subst (λ (t : Bool). cond t (delete_flaw file starts pointer) None ≡ None) g d) some
 
 pub next_is : (file starts : List ℕ) (at : ℕ) → way_flaw file starts at ≡ None → successor file at ≢ 0 → IsAmong starts (successor file at)
-unfolding way_flaw successor
+unfolding way_flaw successor_under
 next_is file starts at e some =
     let all = all_none (way_checks file starts at) e in
     let pointer = pointer_under_end file at in

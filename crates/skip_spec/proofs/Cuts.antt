@@ -7,7 +7,7 @@ use Rattle.skip_form.specs.Fields.{pointer_in}
 use Rattle.skip_form.specs.Spelling.{header_bytes}
 use Rattle.skip_form.proofs.UniqueHeader.{header_bytes-same}
 use Rattle.skip_spec.specs.Opens.{Contents, Reads, HasDirty, IsDirty, with_dirty}
-use Rattle.skip_spec.specs.Near.{Near, IsImageOf, MayHold}
+use Rattle.skip_spec.specs.Near.{Near, IsImageOf, IsPermittedWrite, MayHold}
 use Rattle.skip_spec.proofs.Kept.{free_slot_le, reads_kept}
 use Rattle.skip_spec.proofs.Parts.{Agree, part-same}
 use Rattle.skip_spec.proofs.Places.{within, places, laid, head_is}
@@ -55,3 +55,14 @@ module _ (base : List ℕ) (f : Contents) (r : Reads base f) where
 
 pub cut_near : (base image : List ℕ) (f : Contents) (count : ℕ) → Reads base f → Near base image → HasDirty image → f.header.current_size ≤ count → Near base (take count image) × HasDirty (take count image)
 cut_near base image f count r n d enough = image_near base f r (take count image) (cut_image base f r image count (dirty_image base f r image n d) enough)
+
+-- a write from the committed end on
+pub append_permitted : (base : List ℕ) (f : Contents) (at : ℕ) (bytes : List ℕ) → Reads base f → f.header.current_size ≤ at → IsPermittedWrite base f at bytes
+append_permitted base f at bytes r le = record {
+  past_header = omega (arith, r.least);
+  others = λ i lo hi lt fixed. absurd (omega arith);
+  slots = λ h is n free.
+      let small : n ≤ 1 = omega (arith, free, free_slot_le f.header.current_size (pointer_in base h 0) (pointer_in base h 1)) in
+      let span = within base 64 (places f) f.header.current_size h (laid base f r) (head_is base f r h is).0 in
+      inl (omega (arith, span.high));
+}

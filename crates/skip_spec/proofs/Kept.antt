@@ -41,7 +41,7 @@ row_at b at (s ∷ ss) end v r (inl e) = subst (λ (w : ℕ). StandsAt b w (head
 row_at b at (s ∷ ss) end v r (inr m) = row_at b (at + (head_in b at).size) ss end v r.2 m
 
 -- a record that keeps its first eight bytes stands where it stood
-stands_kept : (b c : List ℕ) (at : ℕ) → head_in c at ≡ head_in b at → part c at 8 ≡ part b at 8 → at + (head_in b at).size ≤ length c → StandsAt b at (head_in b at) → StandsAt c at (head_in c at)
+pub stands_kept : (b c : List ℕ) (at : ℕ) → head_in c at ≡ head_in b at → part c at 8 ≡ part b at 8 → at + (head_in b at).size ≤ length c → StandsAt b at (head_in b at) → StandsAt c at (head_in c at)
 stands_kept b c at same first within s = subst (λ (h : Head). StandsAt c at h) (sym same) (record {
   opening = first ∙ s.opening;
   head = s.head;

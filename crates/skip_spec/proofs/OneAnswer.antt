@@ -3,8 +3,8 @@ use Rattle.std.proofs.Common.{◌≡◌, ◌≢◌, ℕ, ◌+◌, ◌<◌, ◌�
 use Rattle.std.proofs.lemmas.Bool.{cases_lt}
 use Rattle.base_bytes.specs.declared.flaw.Damage.{Damage}
 use Rattle.skip_form.specs.Flaws.{head_in}
-use Rattle.skip_spec.specs.Chain.{Entry}
-use Rattle.skip_spec.specs.FirstFlaw.{end_of, row_flaw, next_flaw, successor, latest, entry_at, RightRows, RightLive, InChain, FromDummy, FromRows, FirstFlaw}
+use Rattle.skip_spec.specs.Chain.{Entry, entry_at}
+use Rattle.skip_spec.specs.FirstFlaw.{end_of, row_flaw, next_flaw, successor, latest, RightRows, RightLive, InChain, FromDummy, FromRows, FirstFlaw}
 
 -- ---- rows
 

@@ -11,14 +11,14 @@ use Rattle.skip_spec.specs.Opens.{Contents, Reads, Tidy, Links, on_level, Opens}
 use Rattle.skip_spec.specs.Examples.{one_pair_file, one_pair}
 use Rattle.skip_spec.proofs.KindLemmas.{put_is_not_dummy}
 
-abbrev says : Contents
+abbrev pub says : Contents
 says = record {
   header = record { version = 1; generation = 1; num_records = 1; repack_size = 336; current_size = 400; flags = 0 };
   starts = 336 ∷ 376 ∷ [];
   chain = record { at = 336; level = 1; key = 97 ∷ []; value = 98 ∷ [] } ∷ [];
 }
 
-reads : Reads one_pair_file says
+pub reads : Reads one_pair_file says
 unfolding header_bytes part u16_in u32_in u64_in after_byte after_bits after_bit
 reads = record {
   header = refl;
@@ -82,8 +82,4 @@ tidy = record {
 
 pub one_pair_opens : Opens one_pair_file one_pair
 unfolding part u16_in u32_in
-one_pair_opens = record {
-  means = (says, reads, refl, inr tidy);
-  levels = (says, reads, (λ e. refl, (λ e. absurd (let h : Commit ≡ Put = e in cc), tt)));
-  clean = (says, reads, λ e. omega (arith, e));
-}
+one_pair_opens = record { says = says; reads = reads; map = refl; sound = inr tidy }

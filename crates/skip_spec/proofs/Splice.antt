@@ -15,6 +15,7 @@ use Rattle.skip_spec.specs.Rows.{IsAmong, Rows}
 use Rattle.skip_spec.specs.Successor.{IsGreatestUnder, LeadsPastDelete, LeadsTo, IsSuccessorUnder}
 use Rattle.skip_spec.specs.Chain.{Entry, Chain, StandsAsEntry, pairs}
 use Rattle.skip_spec.specs.Change.{Changes, IsOutsideLinks, heads_of, first_at, last_at, last_key}
+use Rattle.skip_spec.proofs.Lists.{among_front, among_back}
 use Rattle.skip_spec.proofs.KindLemmas.{put_is_not_gone, gone_is_not_dummy, gone_level}
 use Rattle.skip_spec.proofs.Kept.{row_at}
 use Rattle.skip_spec.proofs.Parts.{part-same, head_in-same}
@@ -54,7 +55,7 @@ linked_rises : (b : List ℕ) (bound : ℕ) (starts : List ℕ) (at : ℕ) (k : 
 linked_rises b bound starts at k e [] to l c = subst (λ (j : List ℕ). IsBelow k j) c.3.1 c.2
 linked_rises b bound starts at k e (f ∷ fs) to l c = below_trans k e.key l c.2 (linked_rises b bound starts e.at e.key f fs to l c.3)
 
-chain_rises : (b : List ℕ) (bound : ℕ) (starts : List ℕ) (at : ℕ) (k : List ℕ) (es : List Entry) → Chain b bound starts at k es → (v : ℕ) → IsAmong (map (λ e. e.at) es) v → IsAmong starts v × IsBelow k (key_in b v)
+pub chain_rises : (b : List ℕ) (bound : ℕ) (starts : List ℕ) (at : ℕ) (k : List ℕ) (es : List Entry) → Chain b bound starts at k es → (v : ℕ) → IsAmong (map (λ e. e.at) es) v → IsAmong starts v × IsBelow k (key_in b v)
 chain_rises b bound starts at k [] c v m = absurd m
 chain_rises b bound starts at k (e ∷ es) c v (inl same) = subst (λ (x : ℕ). IsAmong starts x × IsBelow k (key_in b x)) same (c.1.start, subst (λ (j : List ℕ). IsBelow k j) (sym c.1.key) c.2)
 chain_rises b bound starts at k (e ∷ es) c v (inr m) = let rest = chain_rises b bound starts e.at e.key es c.3 v m in (rest.0, below_trans k e.key (key_in b v) c.2 rest.1)
@@ -203,15 +204,6 @@ module _ (b c : List ℕ) (starts more : List ℕ) (end : ℕ) (hs : List ℕ) (
     delete_chain leads above = chain_append c bound' more 64 [] front p l rest front_stays (rest_stays p l rest others q j chain leads above)
 
 -- ---- parts of a list
-
-among_front : (es fs : List Entry) (v : ℕ) → IsAmong (map (λ e. e.at) es) v → IsAmong (map (λ e. e.at) (es ++ fs)) v
-among_front [] fs v m = absurd m
-among_front (e ∷ es) fs v (inl same) = inl same
-among_front (e ∷ es) fs v (inr m) = inr (among_front es fs v m)
-
-among_back : (es fs : List Entry) (v : ℕ) → IsAmong (map (λ e. e.at) fs) v → IsAmong (map (λ e. e.at) (es ++ fs)) v
-among_back [] fs v m = m
-among_back (e ∷ es) fs v m = inr (among_back es fs v m)
 
 -- a list in two parts: the first leads to its last record, and the second goes on from there
 chain_split : (b : List ℕ) (bound : ℕ) (starts : List ℕ) (at : ℕ) (k : List ℕ) (front back : List Entry) → Chain b bound starts at k (front ++ back) → Linked b bound starts at k front (last_at at front) (last_key k front) × Chain b bound starts (last_at at front) (last_key k front) back

@@ -14,6 +14,10 @@ pub record Entry : Type 0 where
   pub key : List ℕ
   pub value : List ℕ
 
+-- the entry of the put record at an offset
+abbrev pub entry_at : List ℕ → ℕ → Entry
+entry_at file at = record { at = at; level = (head_in file at).level; key = key_in file at; value = value_in file at }
+
 -- a put record with this level, key and value stands at the entry's offset
 pub record StandsAsEntry (file starts : List ℕ) (e : Entry) : Type 0 where
   pub start : IsAmong starts e.at

@@ -1,20 +1,19 @@
 -- What verification answers: the first flaw of a file with its place, or none.
-use Rattle.std.specs.Prelude.{◌≡◌, ◌≢◌, ℕ, zero, suc, ◌+◌, ◌-◌, ◌%◌, ◌==◌, ◌<◌, List, [], ◌∷◌, Bool, true, false, not, ◌&&◌, ◌||◌, if◌then◌else◌, length, Option, Some, None, nat_lt, nat_le, max, ◌⊎◌}
+use Rattle.std.specs.Prelude.{◌≡◌, ◌≢◌, ℕ, zero, suc, ◌+◌, ◌-◌, ◌%◌, ◌==◌, ◌<◌, List, [], ◌∷◌, Bool, true, false, not, ◌&&◌, ◌||◌, if◌then◌else◌, length, take, Option, Some, None, nat_lt, nat_le, ◌⊎◌}
 use Rattle.std.specs.List.{list_all}
 use Rattle.std.specs.Ordering.{is_lt}
 use Rattle.base_bytes.specs.OrderedMap.{key_order}
 use Rattle.base_bytes.specs.declared.flaw.Flaw.{Flaw}
-use Rattle.base_bytes.specs.declared.flaw.Flaw.TheVariants.{Short, Version, Check, Kind, Level, Padding, Extended, Tail, Size, Place, Slot, Order, Link, Count, Unbuilt}
+use Rattle.base_bytes.specs.declared.flaw.Flaw.TheVariants.{Version, Check, Kind, Padding, Tail, Size, Place, Slot, Order, Link, Count}
 use Rattle.base_bytes.specs.declared.flaw.Damage.{Damage}
 use Rattle.check_word.specs.CheckWord.{check_word}
-use Rattle.skip_form.specs.declared.head.Kind as kinds
 use Rattle.skip_form.specs.declared.head.Kind.TheVariants.{Put, Gone, Commit}
 use Rattle.base_bytes.specs.Fields.{part, u32_in}
 use Rattle.skip_form.specs.Fields.{pointer_in}
-use Rattle.skip_form.specs.Flaws.{header_flaw, header_in, opening_in, head_in, is_kind_at, is_level, is_extended}
-use Rattle.skip_form.specs.Spelling.{type_byte}
-use Rattle.skip_spec.specs.Records.{head_size_of, body_size_of, key_in, value_in}
-use Rattle.skip_spec.specs.Chain.{Entry}
+use Rattle.skip_form.specs.Flaws.{header_flaw, header_in, head_flaw, head_in}
+use Rattle.skip_spec.specs.Records.{head_size_of, body_size_of, key_in}
+use Rattle.skip_spec.specs.Successor.{is_of, pointer_under, successor_under}
+use Rattle.skip_spec.specs.Chain.{Entry, entry_at}
 
 -- ---- checks in a row
 
@@ -54,24 +53,18 @@ is_dirty file = (header_in file).flags % 2 == 1
 abbrev pub is_end_right : List ℕ → Bool
 is_end_right file = if is_dirty file then nat_le (end_of file) (length file) else end_of file == length file
 
--- until upper levels are read: no put record has a level above 1
-abbrev pub has_level_one : List ℕ → ℕ → Bool
-has_level_one file at = not (type_byte (head_in file at).kind == type_byte Put) || (head_in file at).level == 1
+-- the file up to its committed end
+abbrev pub before_end : List ℕ → List ℕ
+before_end file = take (end_of file) file
 
--- the checks of the place, type, level and lengths of the record at an offset, in this order
-abbrev pub row_checks : List ℕ → ℕ → List (Option Damage)
-row_checks file at =
-    unless (nat_le (at + 8) (end_of file)) at Short
-    ∷ unless (is_kind_at at (opening_in file at)) at Kind
-    ∷ unless (is_level (opening_in file at)) at Level
-    ∷ unless (not (is_extended (opening_in file at))) at Extended
-    ∷ unless (has_level_one file at) at Unbuilt
-    ∷ unless (nat_le (at + (head_in file at).size) (end_of file)) at Short
-    ∷ []
+-- a flaw at a place
+abbrev pub at_place : ℕ → Option Flaw → Option Damage
+at_place at None = None
+at_place at (Some flaw) = Some (record { at = at; check = flaw })
 
--- what is wrong with the place, type, level and lengths of the record at an offset
+-- what is wrong with the place, type, level and lengths of the record at an offset, in the file up to its end
 unfoldable pub row_flaw : List ℕ → ℕ → Option Damage
-row_flaw file at = first_some (row_checks file at)
+row_flaw file at = at_place at (head_flaw (before_end file) at)
 
 -- the checks of the header and of the row of the dummy, in this order
 abbrev pub front_checks : List ℕ → List (Option Damage)
@@ -80,8 +73,6 @@ front_checks file =
     ∷ unless (nat_le 336 (end_of file)) 48 Size
     ∷ unless (end_of file % 8 == 0) 48 Size
     ∷ unless (is_end_right file) 48 Size
-    -- until recovery is there
-    ∷ unless (not (is_dirty file)) 56 Unbuilt
     ∷ row_flaw file 64
     ∷ []
 
@@ -119,26 +110,13 @@ abbrev pub is_among : List ℕ → ℕ → Bool
 is_among [] at = false
 is_among (first ∷ others) at = first == at || is_among others at
 
--- the record at an offset is of this type
-abbrev pub is_of : List ℕ → ℕ → kinds.Kind → Bool
-is_of file at kind = type_byte (head_in file at).kind == type_byte kind
-
--- a number where it is below the bound, and else 0
-abbrev pub below_or_zero : ℕ → ℕ → ℕ
-below_or_zero bound n = if nat_lt n bound then n else 0
-
 -- the greatest of the two level-zero slots that is below the committed end, or 0
 abbrev pub pointer_under_end : List ℕ → ℕ → ℕ
-pointer_under_end file at =
-    max (below_or_zero (end_of file) (pointer_in file at 0)) (below_or_zero (end_of file) (pointer_in file at 1))
+pointer_under_end file at = pointer_under file (end_of file) at
 
--- the live record after the one at an offset, or 0: the pointer, or where a delete record stands there, its pointer
-unfoldable pub successor : List ℕ → ℕ → ℕ
-successor file at =
-    let pointer = pointer_under_end file at in
-    if pointer == 0 then 0
-    else if is_of file pointer Gone then pointer_in file pointer 0
-    else pointer
+-- the live record after the one at an offset, or 0
+abbrev pub successor : List ℕ → ℕ → ℕ
+successor file at = successor_under file (end_of file) at
 
 -- one of the two level-zero slots is below the committed end, and where the file is clean both are
 abbrev pub are_slots_right : List ℕ → ℕ → Bool
@@ -206,10 +184,6 @@ abbrev pub lead_to : List ℕ → List Entry → ℕ → ℕ → Bool
 lead_to file passed at zero = true
 lead_to file passed at (suc level) =
     pointer_in file (latest_on (suc level) passed) (suc level + 1) == at && lead_to file passed at level
-
--- the entry of the put record at an offset
-abbrev pub entry_at : List ℕ → ℕ → Entry
-entry_at file at = record { at = at; level = (head_in file at).level; key = key_in file at; value = value_in file at }
 
 -- a byte is zero
 abbrev pub is_zero : ℕ → Bool

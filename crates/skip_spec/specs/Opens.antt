@@ -2,12 +2,11 @@
 use Rattle.std.specs.Prelude.{◌≡◌, ℕ, ◌+◌, ◌*◌, ◌/◌, ◌%◌, ◌<◌, ◌≤◌, List, [], ◌∷◌, length, take, filter, nat_lt, ◌⊎◌}
 use Rattle.std.specs.List.{AllByRecursion}
 use Rattle.base_bytes.specs.OrderedMap.{Map}
-use Rattle.skip_form.specs.declared.head.Kind.TheVariants.{Put}
 use Rattle.skip_form.specs.declared.header.Header.{Header}
 use Rattle.skip_form.specs.Fields.{pointer_in}
 use Rattle.skip_form.specs.Flaws.{head_in}
 use Rattle.skip_form.specs.Spelling.{IsHeader, StandsAt, header_bytes}
-use Rattle.skip_spec.specs.Records.{HasKind, HeadCheckIsRight, TailCheckIsRight}
+use Rattle.skip_spec.specs.Records.{HeadCheckIsRight, TailCheckIsRight}
 use Rattle.skip_spec.specs.Rows.{Rows}
 use Rattle.skip_spec.specs.Chain.{Entry, Chain, pairs}
 
@@ -72,26 +71,11 @@ pub record Tidy (file : List ℕ) (says : Contents) : Type 0 where
 -- ---- which files open
 
 -- the file stands for the map, and is tidy unless DIRTY is set
-abbrev pub Means : List ℕ → Map → Type 0
-Means file m = (says : Contents) × Reads file says × (pairs says.chain ≡ m) × (IsDirty says.header ⊎ Tidy file says)
-
--- Until upper levels are read: each put record has level 1.
-abbrev pub OnlyLevelOne : List ℕ → Type 0
-OnlyLevelOne file =
-    (says : Contents)
-    × Reads file says
-    × AllByRecursion (λ at. HasKind file at Put → (head_in file at).level ≡ 1) says.starts
-
--- Until recovery is there: DIRTY is not set.
-abbrev pub IsClean : List ℕ → Type 0
-IsClean file = (says : Contents) × Reads file says × (IsDirty says.header → ⊥)
-
--- The file opens to the map: it means it. The two further fields go when levels are read and when
--- recovery is there.
 pub record Opens (file : List ℕ) (m : Map) : Type 0 where
-  pub means : Means file m
-  pub levels : OnlyLevelOne file
-  pub clean : IsClean file
+  pub says : Contents
+  pub reads : Reads file says
+  pub map : pairs says.chain ≡ m
+  pub sound : IsDirty says.header ⊎ Tidy file says
 
 -- ---- dirty files
 

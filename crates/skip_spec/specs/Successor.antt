@@ -1,9 +1,14 @@
 -- The live record after a live record or the dummy, where only offsets below a bound count.
-use Rattle.std.specs.Prelude.{◌≡◌, ℕ, ◌<◌, ◌≤◌, List, ◌⊎◌}
+use Rattle.std.specs.Prelude.{◌≡◌, ℕ, ◌==◌, ◌<◌, ◌≤◌, List, Bool, if◌then◌else◌, nat_lt, max, ◌⊎◌}
+use Rattle.skip_form.specs.declared.head.Kind as kinds
 use Rattle.skip_form.specs.declared.head.Kind.TheVariants.{Put, Gone}
 use Rattle.skip_form.specs.Fields.{pointer_in}
+use Rattle.skip_form.specs.Flaws.{head_in}
+use Rattle.skip_form.specs.Spelling.{type_byte}
 use Rattle.skip_spec.specs.Records.{HasKind, HeadCheckIsRight, TailCheckIsRight}
 use Rattle.skip_spec.specs.Rows.{IsAmong}
+
+-- ---- as a relation
 
 -- the greatest of two numbers that is below the bound
 pub record IsGreatestUnder (bound x y greatest : ℕ) : Type 0 where
@@ -36,3 +41,25 @@ LeadsTo file starts pointer next =
 abbrev pub IsSuccessorUnder : List ℕ → ℕ → List ℕ → ℕ → ℕ → Type 0
 IsSuccessorUnder file bound starts at next =
     (pointer : ℕ) × IsPointerUnder file bound at pointer × LeadsTo file starts pointer next
+
+-- ---- as a function
+
+-- the record at an offset is of this type
+abbrev pub is_of : List ℕ → ℕ → kinds.Kind → Bool
+is_of file at kind = type_byte (head_in file at).kind == type_byte kind
+
+-- a number where it is below the bound, and else 0
+abbrev pub below_or_zero : ℕ → ℕ → ℕ
+below_or_zero bound n = if nat_lt n bound then n else 0
+
+-- the greatest of the two level-zero slots that is below the bound, or 0
+abbrev pub pointer_under : List ℕ → ℕ → ℕ → ℕ
+pointer_under file bound at = max (below_or_zero bound (pointer_in file at 0)) (below_or_zero bound (pointer_in file at 1))
+
+-- the live record after the one at an offset, or 0: the pointer, or where a delete record stands there, its pointer
+unfoldable pub successor_under : List ℕ → ℕ → ℕ → ℕ
+successor_under file bound at =
+    let pointer = pointer_under file bound at in
+    if pointer == 0 then 0
+    else if is_of file pointer Gone then pointer_in file pointer 0
+    else pointer

@@ -1,28 +1,23 @@
-//! What a twoskip file means: which map it stands for, when it opens, and which images an unfinished
-//! transaction may leave of it. There are definitions and laws here, and two plain programs, which
-//! find the first flaw of a file and the map that it opens to.
+//! What a twoskip file means, for all levels, clean or with DIRTY. There are definitions and laws here,
+//! and no program: each law is the contract of a function with an empty body. README.md lists the
+//! definitions in reading order.
+//!
+//! - `laws`: laws of files, live records, places, images, changes and the fresh layout.
+//! - `examples`: files by their bytes, with check words from outside.
 #![tactic(auto)]
 
 mod examples;
-mod front;
 mod laws;
-mod live;
-mod pairs;
-mod starts;
-mod verify;
-mod way;
-mod words;
 
 pub use examples::{
-    circular_file_has_its_flaw, deleted_file_opens, one_pair_file_opens,
-    second_of_two_is_found_in_33,
+    a_store_is_a_change, circular_file_has_its_flaw, deleted_file_opens, first_store_takes_slot_1,
+    fresh_layouts_have_these_bytes, images_of_a_store_open, one_pair_file_opens,
+    search_bounds_are_these, two_levels_file_opens,
 };
 pub use laws::{
-    changes_give_the_list, file_has_one_first_flaw, file_means_one_map, flawless_file_opens_once,
-    near_images_open_alike, permitted_writes_stay_near,
+    appends_are_permitted, changes_give_the_list, each_key_has_a_place, file_has_one_first_flaw,
+    file_opens_to_one_map, flawless_file_opens, fresh_layout_is_tidy, layouts_keep_the_map,
+    live_records_are_computed, near_images_open_alike, permitted_writes_stay_near,
+    places_follow_the_map, records_end_before_the_end, recovery_gives_back_a_tidy_file,
+    tidy_files_are_live,
 };
-pub use pairs::file_map;
-pub use verify::first_flaw;
-
-#[cfg(test)]
-mod tests;

@@ -1,0 +1,12 @@
+pub mod Appended
+pub mod Frames
+pub mod Links
+pub mod Permitted
+pub mod Placed
+pub mod Recovered
+pub mod Relinked
+pub mod Setting
+pub mod Spots
+pub mod Stored
+pub mod Ties
+pub mod Walks

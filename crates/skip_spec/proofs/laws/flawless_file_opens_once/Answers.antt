@@ -1,7 +1,0 @@
-use Rattle.skip_spec.proofs.Flawless.{flawless_opens}
-use Rattle.skip_spec.proofs.Meanings.{opens_one}
-use Rattle.skip_spec.proofs.NoFlaw.{opens_flawless}
-use Rattle.skip_spec.proofs.laws.flawless_file_opens_once.Goals as goal
-
-pub returns : goal.returns
-returns c = record { opens = λ file bytes. (flawless_opens file bytes, λ o. opens_flawless file o.0 bytes o.1); once = opens_one }
