@@ -5,7 +5,7 @@ use std::process::Abort;
 use std::test::Fail;
 
 // Lines of words, the name of the tool included.
-const WRONG: [&str; 36] = [
+const WRONG: [&str; 33] = [
     "",
     "cyr_dbtool",
     "cyr_dbtool -n",
@@ -36,26 +36,32 @@ const WRONG: [&str; 36] = [
     "cyr_dbtool f flat delete a b",
     "cyr_dbtool f flat show a b",
     "cyr_dbtool f flat consistent x",
-    // an operand that begins with `-`
+    // no other flag, and a key that begins with `-` is given after `--`
     "cyr_dbtool f flat get -k",
     "cyr_dbtool f flat set -b 2",
     "cyr_dbtool f flat set b -2",
-    "cyr_dbtool f flat delete -",
-    "cyr_dbtool f flat show -n",
     "cyr_dbtool - f flat show",
-    "cyr_dbtool - flat show",
     "cyr_dbtool -q f flat show",
     "cyr_dbtool --help",
 ];
 
-// The flag stands once, right behind the name of the tool.
-const MISPLACED: [&str; 6] = [
+// The flag stands once, behind the name of the tool.
+const MISPLACED: [&str; 4] = [
     "-n cyr_dbtool f flat show",
     "cyr_dbtool -n -n f flat show",
-    "cyr_dbtool f -n flat show",
-    "cyr_dbtool f flat -n show",
     "cyr_dbtool -n flat set b 2",
     "cyr_dbtool -nn f flat show",
+];
+
+// Where the flag and a word that begins with `-` may stand: the words, the status, and the file after, which is absent
+// before.
+const TAKEN: [(&str, u8, &[u8]); 6] = [
+    ("cyr_dbtool f -n flat show", 0, b""),
+    ("cyr_dbtool f flat -n set a 1", 0, b"a\t1\n"),
+    ("cyr_dbtool f flat set a 1 -n", 0, b"a\t1\n"),
+    ("cyr_dbtool -n f flat set -- -k -v", 0, b"-k\t-v\n"),
+    ("cyr_dbtool -n -- f flat set - -n", 0, b"-\t-n\n"),
+    ("cyr_dbtool -n f flat get -", 1, b""),
 ];
 
 fn assert_usage(rt: &impl Abort, alloc: Global, words: &[String]) -> Result<(), Fail> {
@@ -76,6 +82,18 @@ fn wrong_words_answer_usage(rt: HostRuntime) -> Result<(), Fail> {
     }
     for line in MISPLACED {
         assert_usage(&rt, alloc, &words_of(alloc, line)?)?;
+    }
+    Ok(())
+}
+
+#[test]
+fn flag_and_word_may_stand_so(rt: HostRuntime) -> Result<(), Fail> {
+    let alloc = rt.alloc();
+    for (line, status, after) in TAKEN {
+        let mut host = host_of(alloc, None, &[], &[])?;
+        let words = words_of(alloc, line)?;
+        assert_eq!(rt; status_of(alloc, &words, &mut host), status, "of {line:?}");
+        assert_eq!(rt; host.disk().main(), Some(after), "of {line:?}");
     }
     Ok(())
 }
