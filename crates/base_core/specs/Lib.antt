@@ -7,7 +7,9 @@ pub use Rattle.base_bytes.specs.Transactions
 pub use Rattle.base_devices.specs.Causes
 pub use Rattle.base_devices.specs.CrashImages
 pub use Rattle.base_devices.specs.DiskCalls
+pub use Rattle.base_devices.specs.Frames
 pub use Rattle.base_devices.specs.HostCalls
+pub use Rattle.base_devices.specs.SpoolCalls
 pub use Rattle.base_devices.specs.Time
 pub use Rattle.base_devices.specs.Untold
 pub use Rattle.base_notes.specs.Notes

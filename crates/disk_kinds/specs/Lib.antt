@@ -1,4 +1,5 @@
 pub use Rattle.file_devices.specs.Files
+pub use Rattle.file_spool.specs.FileSpool
 pub use Rattle.mem_devices.specs.CallLog
 pub use Rattle.mem_devices.specs.History
 pub use Rattle.mem_devices.specs.Landings
@@ -6,3 +7,5 @@ pub use Rattle.mem_devices.specs.Left
 pub use Rattle.mem_devices.specs.MemHost
 pub use Rattle.mem_devices.specs.Memory
 pub use Rattle.mem_devices.specs.Past
+pub use Rattle.mem_spool.specs.MemFiles
+pub use Rattle.mem_spool.specs.MemSpool
