@@ -1,4 +1,4 @@
-"""Prints the table of dates of crates/mail_scan/src/tests/dates.rt, by Python's reader of mail dates."""
+"""Prints the rows of dates of crates/mail_scan/src/tests/dates.rt, by Python's reader of mail dates."""
 from email.utils import mktime_tz, parsedate_tz
 
 DATES = [
@@ -66,4 +66,4 @@ DATES = [
 
 for text in DATES:
     seconds = mktime_tz(parsedate_tz(text))
-    print('    ("%s", %d),' % (text.replace("\t", "\\t"), seconds))
+    print("%s => %d" % (text.replace("\t", "\\t"), seconds))

@@ -1,28 +1,35 @@
 // Names of message files.
+use crate::tests::row_parts;
 use crate::uid_of_name;
+use std::test::Fail;
 
-const NAMES: [(&str, Option<u32>); 16] = [
-    ("1.", Some(1)),
-    ("10.", Some(10)),
-    ("4294967295.", Some(4_294_967_295)),
-    ("4294967296.", None),
-    ("42949672950.", None),
-    ("0.", None),
-    ("01.", None),
-    ("1", None),
-    ("1..", None),
-    (".1.", None),
-    (".", None),
-    ("", None),
-    ("+1.", None),
-    (" 1.", None),
-    ("1a.", None),
-    ("cyrus.cache", None),
-];
+// Each row is `NAME => UID`.
+const NAMES: &str = "\
+1. => 1
+10. => 10
+4294967295. => 4294967295
+4294967296. => none
+42949672950. => none
+0. => none
+01. => none
+1 => none
+1.. => none
+.1. => none
+. => none
+ => none
++1. => none
+ 1. => none
+1a. => none
+cyrus.cache => none
+";
 
 #[test]
-fn uids_of_names(rt: HostRuntime) {
-    for (name, uid) in NAMES {
+fn uids_of_names(rt: HostRuntime) -> Result<(), Fail> {
+    for row in NAMES.lines() {
+        let Some((name, uid)) = row_parts(row) else {
+            return Err("a row without a uid".into());
+        };
         assert_eq!(rt; uid_of_name(name), uid, "{name}");
     }
+    Ok(())
 }

@@ -1,4 +1,8 @@
 // A folder is listed.
+ghost use Rattle.std.specs.Prelude.{IfOk};
+ghost use Rattle.base_devices.specs.SpoolCalls.{GaveNoName};
+ghost use Rattle.mem_spool.specs.MemSpool.{mem_spool_state};
+
 use base_bytes::NoMemory;
 use base_devices::Name;
 use mail_scan::{ScanFault, list};
@@ -7,39 +11,28 @@ use std::alloc::Global;
 use std::process::Abort;
 use std::test::Fail;
 
-const NAMES: [&str; 12] = [
-    "notes",
-    "10.",
-    "01.",
-    "2.",
-    "cyrus.cache",
-    "1",
-    "4294967295.",
-    "4294967296.",
-    "1..",
-    "0.",
-    "cyrus.",
-    "Cyrus.x",
-];
+const NAMES: &str = "notes 10. 01. 2. cyrus.cache 1 4294967295. 4294967296. 1.. 0. cyrus. Cyrus.x";
 
-const MESSAGES: [&str; 3] = ["2.", "10.", "4294967295."];
+const MESSAGES: &str = "2. 10. 4294967295.";
 
-const ODD: [&str; 7] = ["0.", "01.", "1", "1..", "4294967296.", "Cyrus.x", "notes"];
+const ODD: &str = "0. 01. 1 1.. 4294967296. Cyrus.x notes";
 
-fn folder(alloc: Global) -> Result<MemSpool, NoMemory> {
+fn folder(alloc: Global) -> Result<MemSpool, NoMemory>
+    ensures { IfOk result (λ s. GaveNoName (mem_spool_state s)) }
+{
     let mut spool = MemSpool::new(alloc)?;
-    for name in NAMES {
-        if !spool.has(name) && name.len() <= 255 {
+    for name in NAMES.split(' ') {
+        if name.len() <= 255 && !spool.has(name) {
             spool.add(name, 0, b"x")?;
         }
     }
     Ok(spool)
 }
 
-fn assert_names(rt: &impl Abort, found: &[Name], wanted: &[&str]) {
-    assert_eq!(rt; found.len(), wanted.len());
-    for (found, wanted) in found.iter().zip(wanted) {
-        assert_eq!(rt; found.as_str(), *wanted);
+fn assert_names(rt: &impl Abort, found: &[Name], wanted: &str) {
+    assert_eq!(rt; found.len(), wanted.split(' ').count());
+    for (found, wanted) in found.iter().zip(wanted.split(' ')) {
+        assert_eq!(rt; found.as_str(), wanted);
     }
 }
 
@@ -47,11 +40,12 @@ fn assert_names(rt: &impl Abort, found: &[Name], wanted: &[&str]) {
 fn names_are_sorted_out(rt: HostRuntime) -> Result<(), Fail> {
     let mut spool = folder(rt.alloc()).ok().ok_or("no memory")?;
     let listing = list(rt.alloc(), &mut spool).ok().ok_or("listed")?;
-    assert_names(&rt, listing.messages(), &MESSAGES);
-    assert_names(&rt, listing.odd(), &ODD);
+    assert_names(&rt, listing.messages(), MESSAGES);
+    assert_names(&rt, listing.odd(), ODD);
     Ok(())
 }
 
+// Each of 12 names and their end are asked.
 #[test]
 fn a_failing_call_ends_the_listing(rt: HostRuntime) -> Result<(), Fail> {
     for call in 1..14 {

@@ -2,135 +2,10 @@
 use base_devices::{Failed, Name};
 use mail_scan::{Scanned, scan};
 use mem_spool::MemSpool;
-use std::alloc::Global;
+use std::alloc::{AllocError, Global};
 use std::test::Fail;
 
-struct Case {
-    name: &'static str,
-    bytes: &'static [u8],
-    header_size: u32,
-    lines: u32,
-    date: Option<u32>,
-}
-
-// 1 January 2024 at midnight.
-const NEW_YEAR: Option<u32> = Some(1_704_067_200);
-
-const CASES: &[Case] = &[
-    Case {
-        name: "a message",
-        bytes: b"Date: Mon, 1 Jan 2024 01:00:00 +0100\r\nSubject: Hi\r\n\r\nHello\r\n",
-        header_size: 53,
-        lines: 1,
-        date: NEW_YEAR,
-    },
-    Case {
-        name: "one byte",
-        bytes: b"a",
-        header_size: 1,
-        lines: 0,
-        date: None,
-    },
-    Case {
-        name: "an empty line first",
-        bytes: b"\nbody\n",
-        header_size: 1,
-        lines: 1,
-        date: None,
-    },
-    Case {
-        name: "an empty line first, with CR",
-        bytes: b"\r\nbody",
-        header_size: 2,
-        lines: 0,
-        date: None,
-    },
-    Case {
-        name: "a CR alone is no empty line",
-        bytes: b"\rx\n\r\r\n\n.",
-        header_size: 7,
-        lines: 0,
-        date: None,
-    },
-    Case {
-        name: "a header without an end",
-        bytes: b"A: b\nC: d\n",
-        header_size: 10,
-        lines: 0,
-        date: None,
-    },
-    Case {
-        name: "lines end with LF",
-        bytes: b"Date: 1 Jan 2024 00:00:00 GMT\n\nx\ny",
-        header_size: 31,
-        lines: 1,
-        date: NEW_YEAR,
-    },
-    Case {
-        name: "a folded date",
-        bytes: b"X: y\nDate:\r\n 1 Jan 2024\n\t00:00:00 GMT\r\nZ: 1\n\n",
-        header_size: 45,
-        lines: 0,
-        date: NEW_YEAR,
-    },
-    Case {
-        name: "other letters",
-        bytes: b"dAtE:1 Jan 2024 00:00:00 GMT\n\n",
-        header_size: 30,
-        lines: 0,
-        date: NEW_YEAR,
-    },
-    Case {
-        name: "a date in the last line without LF",
-        bytes: b"A: b\nDate: 1 Jan 2024 00:00:00 GMT",
-        header_size: 34,
-        lines: 0,
-        date: NEW_YEAR,
-    },
-    Case {
-        name: "a date behind the header",
-        bytes: b"A: b\n\nDate: 1 Jan 2024 00:00:00 GMT\n",
-        header_size: 6,
-        lines: 1,
-        date: None,
-    },
-    Case {
-        name: "the first date alone",
-        bytes: b"Date: never\nDate: 1 Jan 2024 00:00:00 GMT\n\n",
-        header_size: 43,
-        lines: 0,
-        date: None,
-    },
-    Case {
-        name: "no field of that name",
-        bytes: b"Dates: 1 Jan 2024 00:00:00 GMT\nX-Date: 1 Jan 2024 00:00:00 GMT\n\n",
-        header_size: 64,
-        lines: 0,
-        date: None,
-    },
-    Case {
-        name: "a name cut by a line's end",
-        bytes: b"Dat\nDate: 1 Jan 2024 00:00:00 GMT\n\n",
-        header_size: 35,
-        lines: 0,
-        date: NEW_YEAR,
-    },
-    Case {
-        name: "a value of 128 bytes",
-        bytes: b"Date:                                                                                                         1 Jan 2024 00:00:00 GMT\n\n",
-        header_size: 135,
-        lines: 0,
-        date: NEW_YEAR,
-    },
-    Case {
-        name: "a value of 129 bytes",
-        bytes: b"Date:                                                                                                          1 Jan 2024 00:00:00 GMT\n\n",
-        header_size: 136,
-        lines: 0,
-        date: None,
-    },
-];
-
+// The facts of a message: its name, the time 7 and these bytes.
 fn scanned(alloc: Global, bytes: &[u8]) -> Option<Scanned> {
     let mut spool = MemSpool::new(alloc).ok()?;
     if spool.has("1.") {
@@ -140,68 +15,89 @@ fn scanned(alloc: Global, bytes: &[u8]) -> Option<Scanned> {
     scan(&mut spool, &Name::of("1.")?).ok()?
 }
 
+// The size of the header, the lines behind it, and the date in seconds since 1970.
+fn shown_facts(alloc: Global, found: &Scanned) -> Result<String, AllocError> {
+    let header_size = found.header_size;
+    let lines = found.lines;
+    match found.date {
+        Some(date) => format!(in alloc; "{header_size} {lines} {date}"),
+        None => format!(in alloc; "{header_size} {lines} none"),
+    }
+}
+
+// Each row is `NAME => FACTS => MESSAGE`, with the facts by `shown_facts`. A byte 0 parts two rows.
+const MESSAGES: &str = "\
+a message => 53 1 1704067200 => Date: Mon, 1 Jan 2024 01:00:00 +0100\r\nSubject: Hi\r\n\r\nHello\r\n\0\
+one byte => 1 0 none => a\0\
+an empty line first => 1 1 none => \nbody\n\0\
+an empty line first, with CR => 2 0 none => \r\nbody\0\
+a CR alone is no empty line => 7 0 none => \rx\n\r\r\n\n.\0\
+a header without an end => 10 0 none => A: b\nC: d\n\0\
+lines end with LF => 31 1 1704067200 => Date: 1 Jan 2024 00:00:00 GMT\n\nx\ny\0\
+a folded date => 45 0 1704067200 => X: y\nDate:\r\n 1 Jan 2024\n\t00:00:00 GMT\r\nZ: 1\n\n\0\
+other letters => 30 0 1704067200 => dAtE:1 Jan 2024 00:00:00 GMT\n\n\0\
+a date in the last line without LF => 34 0 1704067200 => A: b\nDate: 1 Jan 2024 00:00:00 GMT\0\
+a date behind the header => 6 1 none => A: b\n\nDate: 1 Jan 2024 00:00:00 GMT\n\0\
+the first date alone => 43 0 none => Date: never\nDate: 1 Jan 2024 00:00:00 GMT\n\n\0\
+no field of that name => 64 0 none => Dates: 1 Jan 2024 00:00:00 GMT\nX-Date: 1 Jan 2024 00:00:00 GMT\n\n\0\
+a name cut by a line's end => 35 0 1704067200 => Dat\nDate: 1 Jan 2024 00:00:00 GMT\n\n\0\
+a value of 128 bytes => 135 0 1704067200 => Date:                                                                                                         1 Jan 2024 00:00:00 GMT\n\n\0\
+a value of 129 bytes => 136 0 none => Date:                                                                                                          1 Jan 2024 00:00:00 GMT\n\n";
+
 #[test]
 fn facts_of_messages(rt: HostRuntime) -> Result<(), Fail> {
-    for case in CASES {
-        let name = case.name;
-        let found = scanned(rt.alloc(), case.bytes).ok_or(name)?;
-        assert_eq!(rt; found.size as usize, case.bytes.len(), "{name}");
-        assert_eq!(rt; found.header_size, case.header_size, "{name}");
-        assert_eq!(rt; found.lines, case.lines, "{name}");
-        assert_eq!(rt; found.date, case.date, "{name}");
-        assert_eq!(rt; found.time, 7, "{name}");
+    for row in MESSAGES.split('\0') {
+        let Some((name, rest)) = row.split_once(" => ") else {
+            return Err("a row without a name".into());
+        };
+        let Some((facts, message)) = rest.split_once(" => ") else {
+            return Err("a row without facts".into());
+        };
+        let found = scanned(rt.alloc(), message.as_bytes()).ok_or("no facts")?;
+        let shown = shown_facts(rt.alloc(), &found)?;
+        assert_eq!(rt; shown.as_str(), facts, "{name}");
+        assert_eq!(rt;
+            (found.size as usize, found.time),
+            (message.len(), 7),
+            "{name}"
+        );
     }
     Ok(())
 }
 
-// How many letters `a`, and their SHA-1 as Python's hashlib gives it.
-const SIZES: [(usize, [u8; 20]); 5] = [
-    (
-        1,
-        [
-            0x86, 0xf7, 0xe4, 0x37, 0xfa, 0xa5, 0xa7, 0xfc, 0xe1, 0x5d, 0x1d, 0xdc, 0xb9, 0xea,
-            0xea, 0xea, 0x37, 0x76, 0x67, 0xb8,
-        ],
-    ),
-    (
-        4095,
-        [
-            0x10, 0x23, 0x65, 0x68, 0xa2, 0x84, 0xfb, 0x37, 0x33, 0xbd, 0x87, 0xc1, 0x52, 0x80,
-            0xaf, 0x95, 0xbd, 0x52, 0x88, 0x39,
-        ],
-    ),
-    (
-        4096,
-        [
-            0x8c, 0x51, 0xfb, 0x6a, 0x0b, 0x58, 0x7e, 0xc9, 0x5c, 0xa7, 0x4a, 0xcf, 0xa4, 0x3d,
-            0xf7, 0x53, 0x9b, 0x48, 0x62, 0x97,
-        ],
-    ),
-    (
-        4097,
-        [
-            0x32, 0x34, 0x4e, 0x25, 0xe9, 0x1c, 0x0b, 0x07, 0xd5, 0x21, 0x6d, 0xe4, 0x96, 0x28,
-            0xee, 0x24, 0x38, 0x13, 0xc0, 0xed,
-        ],
-    ),
-    (
-        8193,
-        [
-            0x3f, 0x50, 0x34, 0xa3, 0xc8, 0x44, 0x6b, 0xc1, 0xf2, 0xf2, 0x0e, 0xa0, 0x5b, 0x54,
-            0x42, 0xc2, 0x0b, 0x77, 0x01, 0x61,
-        ],
-    ),
-];
+// Each row is `SIZE => DIGEST`: how many letters `a`, and their SHA-1 as Python's hashlib gives it.
+const SIZES: &str = "\
+1 => 86f7e437faa5a7fce15d1ddcb9eaeaea377667b8
+4095 => 10236568a284fb3733bd87c15280af95bd528839
+4096 => 8c51fb6a0b587ec95ca74acfa43df7539b486297
+4097 => 32344e25e91c0b07d5216de49628ee243813c0ed
+8193 => 3f5034a3c8446bc1f2f20ea05b5442c20b770161
+";
+
+fn shown_digest(alloc: Global, digest: &[u8; 20]) -> Result<String, AllocError> {
+    let mut shown = String::new(alloc);
+    for byte in digest {
+        let byte = format!(in alloc; "{byte:02x}")?;
+        shown.push_str(byte.as_str())?;
+    }
+    Ok(shown)
+}
 
 #[test]
 fn sizes_about_a_piece(rt: HostRuntime) -> Result<(), Fail> {
-    for (size, digest) in SIZES {
-        let bytes = vec![in rt.alloc(); b'a'; size]?;
-        let found = scanned(rt.alloc(), &bytes).ok_or("scanned")?;
-        assert_eq!(rt; found.size as usize, size);
-        assert_eq!(rt; found.header_size as usize, size);
-        assert_eq!(rt; found.lines, 0);
-        assert_eq!(rt; found.digest, digest, "of {size}");
+    for row in SIZES.lines() {
+        let Some((size, digest)) = row.split_once(" => ") else {
+            return Err("a row without a digest".into());
+        };
+        let size: u16 = size.parse().ok().ok_or("no size")?;
+        let bytes = vec![in rt.alloc(); b'a'; size as usize]?;
+        let found = scanned(rt.alloc(), &bytes).ok_or("no facts")?;
+        let shown = shown_digest(rt.alloc(), &found.digest)?;
+        assert_eq!(rt; shown.as_str(), digest, "of {size}");
+        assert_eq!(rt;
+            (found.size, found.header_size, found.lines),
+            (size as u32, size as u32, 0)
+        );
     }
     Ok(())
 }
@@ -224,22 +120,27 @@ fn no_byte_is_no_message(rt: HostRuntime) {
     assert_eq!(rt; scanned(rt.alloc(), b""), None);
 }
 
+// A message of 8193 bytes, two pieces and a byte, of which this call is to fail.
+fn failing_message(alloc: Global, call: u64) -> Result<MemSpool, Fail> {
+    let bytes = vec![in alloc; b'a'; 8193]?;
+    let mut spool = MemSpool::new(alloc).ok().ok_or("no memory")?;
+    if spool.has("1.") {
+        return Err("no new folder".into());
+    }
+    spool.add("1.", 7, &bytes).ok().ok_or("no memory")?;
+    spool.fail_at(call).ok().ok_or("no memory")?;
+    Ok(spool)
+}
+
 // The time, three pieces and the end are asked, in this order.
 #[test]
 fn a_failing_call_ends_the_scan(rt: HostRuntime) -> Result<(), Fail> {
-    let bytes = vec![in rt.alloc(); b'a'; 8193]?;
-    for call in 1..7 {
-        let mut spool = MemSpool::new(rt.alloc()).ok().ok_or("no memory")?;
-        if !spool.has("1.") {
-            spool.add("1.", 7, &bytes).ok().ok_or("no memory")?;
-        }
-        spool.fail_at(call).ok().ok_or("no memory")?;
-        let answer = scan(&mut spool, &Name::of("1.").ok_or("short")?);
-        assert_eq!(rt;
-            answer.err(),
-            if call < 6 { Some(Failed) } else { None },
-            "call {call}"
-        );
+    let name = Name::of("1.").ok_or("short")?;
+    for call in 1..6 {
+        let mut spool = failing_message(rt.alloc(), call)?;
+        assert_eq!(rt; scan(&mut spool, &name).err(), Some(Failed), "call {call}");
     }
+    let mut spool = failing_message(rt.alloc(), 6)?;
+    assert!(rt; scan(&mut spool, &name).is_ok());
     Ok(())
 }
