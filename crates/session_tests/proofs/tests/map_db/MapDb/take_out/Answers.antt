@@ -3,7 +3,7 @@ use Rattle.std.specs.Prelude.{if◌then◌else◌}
 use Rattle.session_tests.specs.MemorySessions.{counting_kind}
 use Rattle.db_core.specs.declared.fault.DbFault.TheVariants.{Full}
 use Rattle.base_bytes.proofs.OrderedMaps.{without_absent}
-use Rattle.session_tests.proofs.Trees.{tree_some, tree_without}
+use Rattle.session_tests.proofs.Trees.{tree_some, tree_without, without_sound}
 use Rattle.session_tests.proofs.MemoryLemmas.{deleted_memory, kept_memory, delete_owed}
 use Rattle.session_tests.proofs.tests.map_db.MapDb.take_out.Goals as goal
 
@@ -47,3 +47,9 @@ returns-clause-answer c =
       refused = tt;
       after = tt;
     }
+
+pub invariant_of-self-clause-ordered : goal.invariant_of-self-clause-ordered
+invariant_of-self-clause-ordered c = (without_sound c.args.self.now.seen.entries c.remove.new.self.entries c.args.key.now c.remove.ensures.entries c.args.self.now.ordered c.args.self.now.some).ordered
+
+pub invariant_of-self-clause-some : goal.invariant_of-self-clause-some
+invariant_of-self-clause-some c = (without_sound c.args.self.now.seen.entries c.remove.new.self.entries c.args.key.now c.remove.ensures.entries c.args.self.now.ordered c.args.self.now.some).some
