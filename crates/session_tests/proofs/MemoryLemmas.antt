@@ -8,7 +8,7 @@ use Rattle.std.specs.declared.cmp.Ordering.{Ordering}
 use Rattle.std.specs.declared.cmp.Ordering.TheVariants.{Less, Equal, Greater}
 use Rattle.base_bytes.proofs.OrderedMaps.{below_then, pairs_from_place}
 use Rattle.std.specs.Prelude.{◌&&◌, filter, is_some, not, if◌then◌else◌}
-use Rattle.base_bytes.specs.OrderedMap.{Map, IsBelow, IsDbMap, IsOrderedMap, key_order, pairs_from, put, without, value_at}
+use Rattle.base_bytes.specs.OrderedMap.{Map, IsBelow, IsOrderedMap, key_order, pairs_from, put, without, value_at}
 use Rattle.db_core.specs.Sessions.{DbKind, DbState, begun, stored, deleted}
 use Rattle.base_bytes.specs.declared.change.Change.TheVariants.{Put, Del}
 use Rattle.session_tests.specs.MemorySessions.{counting_kind, memory_state}
@@ -48,11 +48,6 @@ module _ (kind : DbKind) (b : Bool) (seen saved : Map) (load saved_load : ℕ) (
 pub delete_owed : (limit : ℕ) (b : Bool) (seen saved : Map) (load saved_load : ℕ) (changed : Bool) (key : List ℕ) (there : Bool) → is_some (value_at seen key) ≡ there
     → delete_refusal (counting_kind limit) (memory_state b seen saved load saved_load changed) key ≡ (if there then size_refusal (counting_kind limit) (load + 1) else None)
 delete_owed limit b seen saved load saved_load changed key there is = ap (λ (t : Bool). if t then size_refusal (counting_kind limit) (load + 1) else None) is
-
--- both maps are those of a database
-pub committed_sound : (b : Bool) (seen saved : Map) → IsDbMap seen → IsDbMap saved → IsDbMap (if b then saved else seen)
-committed_sound true seen saved one other = other
-committed_sound false seen saved one other = one
 
 -- ---- walks
 
@@ -97,9 +92,11 @@ search_place m left rest place p at is = next_place p rest m place (sym is ∙ a
 
 -- the pair at a place, and none behind all pairs
 pub step_found : (m left rest : Map) (place at : ℕ) (p q : List ℕ × List ℕ) → left ≡ drop place m → left ≡ p ∷ rest → q.0 ≡ p.0 → q.1 ≡ p.1 → place ≡ at → (l : Map) → l ≡ drop at m → (r : Map) × (l ≡ q ∷ r) × (r ≡ drop (place + 1) m)
-step_found m left rest place at p q here is key value same l there =
-    (rest, there ∙ ap (λ (n : ℕ). drop n m) (sym same) ∙ sym here ∙ is ∙ ap (λ (v : List ℕ). (p.0, v) ∷ rest) (sym value) ∙ ap (λ (k : List ℕ). (k, q.1) ∷ rest) (sym key),
-    search_place m left rest place p here is)
+step_found m left rest place at p q here is key value same l there = (
+  rest,
+  there ∙ ap (λ (n : ℕ). drop n m) (sym same) ∙ sym here ∙ is ∙ ap (λ (v : List ℕ). (p.0, v) ∷ rest) (sym value) ∙ ap (λ (k : List ℕ). (k, q.1) ∷ rest) (sym key),
+  search_place m left rest place p here is,
+)
 
 pub step_none : (m left : Map) (place at : ℕ) → left ≡ drop place m → left ≡ [] → place ≤ at → (l : Map) → l ≡ drop at m → l ≡ []
 step_none m left place at here is before l there = there ∙ drop_all at m (omega (arith, before, ap length (sym is ∙ here), length-drop place m))

@@ -1,4 +1,4 @@
-use Rattle.std.proofs.Common.{◌≡◌, Bool, true, false, ap, map, ◌∙◌, sym, rules, List, ℕ}
+use Rattle.std.proofs.Common.{◌≡◌, ap, map, ◌∙◌, List, ℕ}
 use Rattle.std.specs.Ordering.{is_lt}
 use Rattle.base_bytes.specs.OrderedMap.{key_order}
 use Rattle.session_tests.specs.MemorySessions.{pairs_in}
