@@ -50,8 +50,7 @@ impl MapDb {
 
     fn put_pair(&mut self, key: &[u8], value: &[u8]) -> Result<(), DbFault>
         requires { self.old.in_transaction ≡ true }
-        ensures answer {
-            AnswersChange (Put 0 key.now value.now) (state_of self.old) (state_of self.new) result }
+        ensures answer { AnswersChange (Put 0 key.now value.now) (state_of self.old) (state_of self.new) result }
         ensures no_fault { IfErr result (λ fault. ¬ IsDiskFault fault) }
     {
         if let Some(fault) = pair_fault(key, value) {
