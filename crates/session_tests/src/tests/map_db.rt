@@ -76,7 +76,7 @@ impl MapDb {
 
     fn take_out(&mut self, key: &[u8]) -> Result<bool, DbFault>
         requires { self.old.in_transaction ≡ true }
-        ensures was_there { IfOk result (λ was. was ≡ is_some (value_at (pairs_in self.old.seen.entries) key.now)) }
+        ensures was_there { IfOk result (λ was. was ≡ is_some (value_at (state_of self.old).seen key.now)) }
         ensures answer { AnswersChange (Del key.now) (state_of self.old) (state_of self.new) result }
         ensures no_fault { IfErr result (λ fault. ¬ IsDiskFault fault) }
     {
