@@ -1,17 +1,18 @@
 -- What the calls of a session in memory make of its state.
-use Rattle.std.proofs.Common.{◌≡◌, ◌≤◌, ℕ, zero, suc, ◌+◌, None, Bool, true, false, cond, List, [], ◌∷◌, length, drop, ◌∙◌, ap, sym, arith}
+use Rattle.std.proofs.Common.{◌≡◌, ◌≢◌, ◌≤◌, ℕ, zero, suc, ◌+◌, None, Bool, true, false, cond, List, [], ◌∷◌, length, drop, ◌∙◌, ap, refl, sym, subst, arith}
 use Rattle.std.proofs.lemmas.List.{drop-drop, drop_all, length-drop}
 use Rattle.std.proofs.lemmas.List.Elements.{All-cons, All-nil}
 use Rattle.std.specs.List.{All}
 use Rattle.std.specs.Ordering.{is_lt}
 use Rattle.std.specs.declared.cmp.Ordering.{Ordering}
+use Rattle.std.specs.declared.cmp.Ordering.TheVariants.{Less, Equal, Greater}
 use Rattle.base_bytes.proofs.OrderedMaps.{below_then, pairs_from_place}
 use Rattle.std.specs.Prelude.{◌&&◌, filter, is_some, not, if◌then◌else◌}
-use Rattle.base_bytes.specs.OrderedMap.{Map, IsBelow, IsDbMap, IsOrderedMap, key_order, pairs_from, put, without, value_at}
+use Rattle.base_bytes.specs.OrderedMap.{Map, IsBelow, IsOrderedMap, key_order, pairs_from, put, without, value_at}
 use Rattle.db_core.specs.Sessions.{DbKind, DbState, begun, stored, deleted}
 use Rattle.base_bytes.specs.declared.change.Change.TheVariants.{Put, Del}
 use Rattle.session_tests.specs.MemorySessions.{counting_kind, memory_state}
-use Rattle.db_core.specs.Refusals.{size_refusal, delete_refusal}
+use Rattle.db_core.specs.Refusals.{pair_refusal, size_refusal, delete_refusal}
 
 pub begun_memory : (b : Bool) (seen saved copy : Map) (load saved_load : ℕ) (changed : Bool) → b ≡ false → copy ≡ seen → memory_state true seen copy load load false ≡ begun (memory_state b seen saved load saved_load changed)
 begun_memory true seen saved copy load saved_load changed closed same = absurd (cc closed)
@@ -48,11 +49,6 @@ pub delete_owed : (limit : ℕ) (b : Bool) (seen saved : Map) (load saved_load :
     → delete_refusal (counting_kind limit) (memory_state b seen saved load saved_load changed) key ≡ (if there then size_refusal (counting_kind limit) (load + 1) else None)
 delete_owed limit b seen saved load saved_load changed key there is = ap (λ (t : Bool). if t then size_refusal (counting_kind limit) (load + 1) else None) is
 
--- both maps are those of a database
-pub committed_sound : (b : Bool) (seen saved : Map) → IsDbMap seen → IsDbMap saved → IsDbMap (if b then saved else seen)
-committed_sound true seen saved one other = other
-committed_sound false seen saved one other = one
-
 -- ---- walks
 
 -- the pairs behind a place
@@ -76,6 +72,47 @@ dropped_ordered zero m ordered = ordered
 dropped_ordered (suc place) [] ordered = tt
 dropped_ordered (suc place) (p ∷ m) ordered = dropped_ordered place m ordered.1
 
--- a place behind all pairs
-pub none_there : (m : Map) (place at : ℕ) → [] ≡ drop place m → place ≤ at → drop at m ≡ []
-none_there m place at none before = drop_all at m (omega (arith, before, ap length none, length-drop place m))
+-- A search for the first key that is not below this one, at a place with these pairs left.
+module _ (m left : Map) (key : List ℕ) (place : ℕ) (at : left ≡ drop place m) (from : pairs_from m key ≡ pairs_from left key) where
+  pub search_stops : (p : List ℕ × List ℕ) (rest : Map) → left ≡ p ∷ rest → IsOrderedMap m → ¬ IsBelow p.0 key → pairs_from m key ≡ drop place m
+  search_stops p rest is ordered isnt =
+      from ∙ ap (λ (l : Map). pairs_from l key) is
+      ∙ from_here p rest key (subst IsOrderedMap (sym at ∙ is) (dropped_ordered place m ordered)) isnt
+      ∙ sym is ∙ at
+
+  pub search_from : (p : List ℕ × List ℕ) (rest : Map) → left ≡ p ∷ rest → IsBelow p.0 key → pairs_from m key ≡ pairs_from rest key
+  search_from p rest is below = from ∙ ap (λ (l : Map). pairs_from l key) is ∙ from_below p rest key below
+
+  pub search_ends : left ≡ [] → pairs_from m key ≡ drop place m
+  unfolding pairs_from
+  search_ends is = from ∙ ap (λ (l : Map). pairs_from l key) is ∙ sym is ∙ at
+
+pub search_place : (m left rest : Map) (place : ℕ) (p : List ℕ × List ℕ) → left ≡ drop place m → left ≡ p ∷ rest → rest ≡ drop (place + 1) m
+search_place m left rest place p at is = next_place p rest m place (sym is ∙ at)
+
+-- the pair at a place, and none behind all pairs
+pub step_found : (m left rest : Map) (place at : ℕ) (p q : List ℕ × List ℕ) → left ≡ drop place m → left ≡ p ∷ rest → q.0 ≡ p.0 → q.1 ≡ p.1 → place ≡ at → (l : Map) → l ≡ drop at m → (r : Map) × (l ≡ q ∷ r) × (r ≡ drop (place + 1) m)
+step_found m left rest place at p q here is key value same l there = (
+  rest,
+  there ∙ ap (λ (n : ℕ). drop n m) (sym same) ∙ sym here ∙ is ∙ ap (λ (v : List ℕ). (p.0, v) ∷ rest) (sym value) ∙ ap (λ (k : List ℕ). (k, q.1) ∷ rest) (sym key),
+  search_place m left rest place p here is,
+)
+
+pub step_none : (m left : Map) (place at : ℕ) → left ≡ drop place m → left ≡ [] → place ≤ at → (l : Map) → l ≡ drop at m → l ≡ []
+step_none m left place at here is before l there = there ∙ drop_all at m (omega (arith, before, ap length (sym is ∙ here), length-drop place m))
+
+-- a key that may be stored is not empty
+pub stored_some : (key value : List ℕ) → pair_refusal key value ≡ None → key ≢ []
+stored_some [] value none = absurd (cc none)
+stored_some (x ∷ key) value none = λ e. absurd (cc e)
+
+-- what the test of an order says
+pub below_by : (o : Ordering) (t : Bool) → t ≡ is_lt o → t ≡ true → o ≡ Less
+below_by Less t is lt = refl
+below_by Equal t is lt = absurd (cc (is, lt))
+below_by Greater t is lt = absurd (cc (is, lt))
+
+pub not_below_by : (o : Ordering) (t : Bool) → t ≡ is_lt o → t ≡ false → ¬ (o ≡ Less)
+not_below_by Less t is lt = absurd (cc (is, lt))
+not_below_by Equal t is lt = λ e. absurd (cc e)
+not_below_by Greater t is lt = λ e. absurd (cc e)

@@ -1,1 +1,2 @@
 pub mod MemorySessions
+pub mod MemoryStates

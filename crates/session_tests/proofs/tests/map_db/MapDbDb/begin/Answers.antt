@@ -1,5 +1,5 @@
 use Rattle.std.proofs.Common.{map, refl}
-use Rattle.session_tests.proofs.Trees.{tree_clone}
+use Rattle.session_tests.proofs.Trees.{tree_clone, clone_sound}
 use Rattle.session_tests.proofs.MemoryLemmas.{begun_memory}
 use Rattle.session_tests.proofs.tests.map_db.MapDbDb.begin.Goals as goal
 
@@ -10,3 +10,9 @@ returns-in-Ok-clause-answer g c = record {
   refused = tt;
   after = tt;
 }
+
+pub invariant_of-self-clause-saved_ordered : goal.invariant_of-self-clause-saved_ordered
+invariant_of-self-clause-saved_ordered g c = (clone_sound c.args.self.now.seen.entries c.in-Ok.copy.entries c.in-Ok.ensures.cases c.args.self.now.ordered c.args.self.now.some).ordered
+
+pub invariant_of-self-clause-saved_some : goal.invariant_of-self-clause-saved_some
+invariant_of-self-clause-saved_some g c = (clone_sound c.args.self.now.seen.entries c.in-Ok.copy.entries c.in-Ok.ensures.cases c.args.self.now.ordered c.args.self.now.some).some
