@@ -60,7 +60,7 @@ device_of NoDisk is = tt
 device_of NoFile is = absurd (cc is)
 device_of (TooBig size) is = absurd (cc is)
 device_of NoRoom is = absurd (cc is)
-device_of (Flawed at check) is = absurd (cc is)
+device_of (Flawed at flaw) is = absurd (cc is)
 
 pub note_of : (f : OpenFault) → IsDeviceFault f → opening_note Host f ≡ DeviceFault Host
 note_of NoDisk is = refl

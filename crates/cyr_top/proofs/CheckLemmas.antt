@@ -109,7 +109,7 @@ module _ (kind : DbKind) (laws : DbLaws kind) (g : Given) where
     stated_by : (f : OpenFault) (main : Image) → (IsDamage f → ⊥) → IsOpenRefusal kind main f → IsCutOff (opening_note Host f) ⊎ IsStatedBy asked main (moment d o) (moment e p) (opening_note Host f)
     stated_by NoFile main sound is = inr (record { output = []; result = unopened NoFile (is, λ make. cc make) refl refl; told = nothing.told })
     stated_by (TooBig size) main sound is = inr (record { output = []; result = unopened (TooBig size) is refl refl; told = nothing.told })
-    stated_by (Flawed at check) main sound is = absurd (sound tt)
+    stated_by (Flawed at flaw) main sound is = absurd (sound tt)
     stated_by NoRoom main sound is = inl (inr refl)
     stated_by NoDisk main sound is = inl (inl tt)
 

@@ -112,19 +112,19 @@ module _ (kind : DbKind) (laws : DbLaws kind) (action : Action) (g : Given) wher
   unopened_made None fault un = absurd (opens_fails then_asked laws (Some kind.empty) (made_session asked) fault (record { bytes = kind.empty; there = refl; map = []; opens = laws.fresh; rests = refl }) un)
   unopened_made (Some bytes) NoFile un = absurd (cc un.0)
   unopened_made (Some bytes) (TooBig size) un = un
-  unopened_made (Some bytes) (Flawed at check) un = un
+  unopened_made (Some bytes) (Flawed at flaw) un = un
   unopened_made (Some bytes) NoRoom un = un
   unopened_made (Some bytes) NoDisk un = un
 
   made_unopened : (main : Image) (fault : OpenFault) → IsUnopened asked main fault → IsUnopened then_asked (made_image main) fault
   made_unopened None NoFile un = absurd (un.1 refl)
   made_unopened None (TooBig size) un = absurd (cc un.there)
-  made_unopened None (Flawed at check) un = absurd (cc un.there)
+  made_unopened None (Flawed at flaw) un = absurd (cc un.there)
   made_unopened None NoRoom un = un
   made_unopened None NoDisk un = un
   made_unopened (Some bytes) NoFile un = absurd (cc un.0)
   made_unopened (Some bytes) (TooBig size) un = un
-  made_unopened (Some bytes) (Flawed at check) un = un
+  made_unopened (Some bytes) (Flawed at flaw) un = un
   made_unopened (Some bytes) NoRoom un = un
   made_unopened (Some bytes) NoDisk un = un
 
@@ -140,7 +140,7 @@ module _ (kind : DbKind) (laws : DbLaws kind) (action : Action) (g : Given) wher
   unopened_there : (main : Image) (fault : OpenFault) → IsUnopened asked main fault → (bytes : List ℕ) × (main ≡ Some bytes)
   unopened_there None NoFile un = absurd (un.1 refl)
   unopened_there None (TooBig size) un = absurd (cc un.there)
-  unopened_there None (Flawed at check) un = absurd (cc un.there)
+  unopened_there None (Flawed at flaw) un = absurd (cc un.there)
   unopened_there None NoRoom un = absurd un
   unopened_there None NoDisk un = absurd un
   unopened_there (Some bytes) fault un = (bytes, refl)

@@ -47,7 +47,7 @@ module _ (asked : Asked) (laws : DbLaws asked.kind) where
   starts_fails main s fault (inl opens) un = opens_fails main s fault opens un
   starts_fails main s NoFile (inr makes) un = un.1 makes.0
   starts_fails main s (TooBig size) (inr makes) un = cc (makes.1, un.there)
-  starts_fails main s (Flawed at check) (inr makes) un = cc (makes.1, un.there)
+  starts_fails main s (Flawed at flaw) (inr makes) un = cc (makes.1, un.there)
   starts_fails main s NoRoom (inr makes) un = un
   starts_fails main s NoDisk (inr makes) un = un
 
@@ -68,12 +68,12 @@ module _ (asked : Asked) (laws : DbLaws asked.kind) where
   pub unopened_once : (main : Image) (a b : OpenFault) → IsUnopened asked main a → IsUnopened asked main b → a ≡ b
   unopened_once main NoFile NoFile one other = refl
   unopened_once main NoFile (TooBig size) one other = absurd (cc (one.0, other.there))
-  unopened_once main NoFile (Flawed at check) one other = absurd (cc (one.0, other.there))
+  unopened_once main NoFile (Flawed at flaw) one other = absurd (cc (one.0, other.there))
   unopened_once main (TooBig size) NoFile one other = absurd (cc (other.0, one.there))
   unopened_once main (TooBig size) (TooBig other_size) one other = ap (λ (n : ℕ). TooBig n) (one.counted ∙ ap length (same_bytes main one.bytes other.bytes one.there other.there) ∙ sym other.counted)
-  unopened_once main (TooBig size) (Flawed at check) one other = absurd (omega (arith, one.over, one.counted, other.within, ap length (same_bytes main one.bytes other.bytes one.there other.there)))
-  unopened_once main (Flawed at check) NoFile one other = absurd (cc (other.0, one.there))
-  unopened_once main (Flawed at check) (TooBig size) one other = absurd (omega (arith, other.over, other.counted, one.within, ap length (same_bytes main one.bytes other.bytes one.there other.there)))
+  unopened_once main (TooBig size) (Flawed at flaw) one other = absurd (omega (arith, one.over, one.counted, other.within, ap length (same_bytes main one.bytes other.bytes one.there other.there)))
+  unopened_once main (Flawed at flaw) NoFile one other = absurd (cc (other.0, one.there))
+  unopened_once main (Flawed at flaw) (TooBig size) one other = absurd (omega (arith, other.over, other.counted, one.within, ap length (same_bytes main one.bytes other.bytes one.there other.there)))
   unopened_once main (Flawed at check) (Flawed place found) one other =
       let same = laws.first other.bytes (record { at = at; check = check }) (record { at = place; check = found }) (subst (λ (l : List ℕ). asked.kind.flawed l (record { at = at; check = check })) (same_bytes main one.bytes other.bytes one.there other.there) one.so) other.so in
       ap (λ (d : Damage). Flawed d.at d.check) same
@@ -83,8 +83,8 @@ module _ (asked : Asked) (laws : DbLaws asked.kind) where
   unopened_once main NoFile NoDisk one other = absurd other
   unopened_once main (TooBig size) NoRoom one other = absurd other
   unopened_once main (TooBig size) NoDisk one other = absurd other
-  unopened_once main (Flawed at check) NoRoom one other = absurd other
-  unopened_once main (Flawed at check) NoDisk one other = absurd other
+  unopened_once main (Flawed at flaw) NoRoom one other = absurd other
+  unopened_once main (Flawed at flaw) NoDisk one other = absurd other
 
   pub stated_once : (main : Image) (note wanted : Note) (told output : List ℕ) → StatedResult asked main note told → StatedResult asked main wanted output → (note ≡ wanted) × (told ≡ output)
   stated_once main note wanted told output (acted s starts is out) (acted t starts_too is_too out_too) =
@@ -154,14 +154,14 @@ opening_built NoFile = tt
 opening_built (TooBig size) = tt
 opening_built NoRoom = tt
 opening_built NoDisk = tt
-opening_built (Flawed at check) = tt
+opening_built (Flawed at flaw) = tt
 
 pub opening_no_usage : (fault : OpenFault) → opening_note Host fault ≡ Usage → ⊥
 opening_no_usage NoFile is = cc is
 opening_no_usage (TooBig size) is = cc is
 opening_no_usage NoRoom is = cc is
 opening_no_usage NoDisk is = cc is
-opening_no_usage (Flawed at check) is = cc is
+opening_no_usage (Flawed at flaw) is = cc is
 
 -- a fault of the host is built
 pub fault_built : (note : Note) → ((device : Device) → note ≡ DeviceFault device → device ≡ Host) → IsFault note → IsBuilt note

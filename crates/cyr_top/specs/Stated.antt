@@ -42,7 +42,7 @@ abbrev pub flaw_line : ℕ → Flaw → List ℕ
 flaw_line at check = codes "not consistent: " ++ flaw_text check ++ codes " at " ++ decimal at ++ codes "\n"
 
 abbrev pub unopened_note : Action → OpenFault → Note
-unopened_note Consistent (Flawed at check) = Answer
+unopened_note Consistent (Flawed _ _) = Answer
 unopened_note action fault = opening_note Host fault
 
 abbrev pub unopened_output : Action → OpenFault → List ℕ
