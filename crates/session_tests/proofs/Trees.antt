@@ -19,7 +19,7 @@ V = Vec ℕ Global
 abbrev items_of : V × V → List ℕ × List ℕ
 items_of e = (e.0.items, e.1.items)
 
-tree_put : (es : List (V × V)) (k v : V) → map items_of (insert_entry (λ a b. key_order a.items b.items) es k v) ≡ put (map items_of es) k.items v.items
+pub tree_put : (es : List (V × V)) (k v : V) → map items_of (insert_entry (λ a b. key_order a.items b.items) es k v) ≡ put (map items_of es) k.items v.items
 unfolding put
 tree_put [] k v = refl
 tree_put (e ∷ es) k v = by (key_order k.items e.0.items) (tree_put es k v)
@@ -31,7 +31,7 @@ tree_put (e ∷ es) k v = by (key_order k.items e.0.items) (tree_put es k v)
     by Equal rest = refl
     by Greater rest = ap (λ (l : Map). items_of e ∷ l) rest
 
-tree_without : (es : List (V × V)) (k : List ℕ) → map items_of (remove_entry (λ (a : V). is_eq (key_order k a.items)) es) ≡ without (map items_of es) k
+pub tree_without : (es : List (V × V)) (k : List ℕ) → map items_of (remove_entry (λ (a : V). is_eq (key_order k a.items)) es) ≡ without (map items_of es) k
 unfolding without
 tree_without [] k = refl
 tree_without (e ∷ es) k = by (is_eq (key_order k e.0.items)) (tree_without es k)
@@ -72,14 +72,6 @@ pub tree_some : (es : List (V × V)) (k : List ℕ) (found : Option (Bor V)) (th
 tree_some es k None there is some = ap is_some (sym (tree_value es k)) ∙ ap (λ (o : Option V). is_some (option_map (λ (v : V). v.items) o)) (sym is) ∙ some
 tree_some es k (Some v) there is some = ap is_some (sym (tree_value es k)) ∙ ap (λ (o : Option V). is_some (option_map (λ (w : V). w.items) o)) (sym is) ∙ some
 
--- the maps after a put and a removal
-pub put_is : (es fs : List (V × V)) (k v : V) (key value : List ℕ) → fs ≡ insert_entry (λ a b. key_order a.items b.items) es k v → k.items ≡ key → v.items ≡ value → map items_of fs ≡ put (map items_of es) key value
-put_is es fs k v key value are keys values =
-    ap (map items_of) are ∙ tree_put es k v ∙ ap (λ (l : List ℕ). put (map items_of es) l v.items) keys ∙ ap (λ (l : List ℕ). put (map items_of es) key l) values
-
-pub without_is : (es fs : List (V × V)) (key : List ℕ) → fs ≡ remove_entry (λ (a : V). is_eq (key_order key a.items)) es → map items_of fs ≡ without (map items_of es) key
-without_is es fs key are = ap (map items_of) are ∙ tree_without es key
-
 -- ---- the map stays one of a database
 
 pub put_sound : (es fs : List (V × V)) (k v : V) (key : List ℕ) → fs ≡ insert_entry (λ a b. key_order a.items b.items) es k v → k.items ≡ key → key ≢ [] → IsOrderedMap (map items_of es) → All (λ p. p.0 ≢ []) (map items_of es) → IsDbMap (map items_of fs)
@@ -88,7 +80,7 @@ put_sound es fs k v key are is some ordered all =
 
 pub without_sound : (es fs : List (V × V)) (key : List ℕ) → fs ≡ remove_entry (λ (a : V). is_eq (key_order key a.items)) es → IsOrderedMap (map items_of es) → All (λ p. p.0 ≢ []) (map items_of es) → IsDbMap (map items_of fs)
 without_sound es fs key are ordered all =
-    subst IsDbMap (sym (without_is es fs key are)) (without_db_map (map items_of es) key (record { ordered = ordered; some = all }))
+    subst IsDbMap (sym (ap (map items_of) are ∙ tree_without es key)) (without_db_map (map items_of es) key (record { ordered = ordered; some = all }))
 
 pub clone_sound : (es fs : List (V × V)) → AllZip (λ (a b : V × V). IsSameVec a.0 b.0 × IsSameVec a.1 b.1) es fs → IsOrderedMap (map items_of es) → All (λ p. p.0 ≢ []) (map items_of es) → IsDbMap (map items_of fs)
 clone_sound es fs same ordered all = subst IsDbMap (sym (tree_clone es fs same)) (record { ordered = ordered; some = all })

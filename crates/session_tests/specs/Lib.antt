@@ -1,2 +1,1 @@
 pub mod MemorySessions
-pub mod MemoryStates

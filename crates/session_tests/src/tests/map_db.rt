@@ -4,7 +4,7 @@ ghost use Rattle.std.specs.List.{All};
 ghost use Rattle.base_bytes.specs.OrderedMap.{IsOrderedMap, value_at};
 ghost use Rattle.base_bytes.specs.declared.change.Change.TheVariants.{Put, Del};
 ghost use Rattle.db_core.specs.Refusals.{IsDiskFault};
-ghost use Rattle.session_tests.specs.MemorySessions.{AnswersChange, ordered_prop, pairs_in};
+ghost use Rattle.session_tests.specs.MemorySessions.{AnswersChange, memory_state, ordered_prop, pairs_in};
 
 use base_bytes::{Pair, compare_keys};
 use base_devices::Disk;
@@ -34,8 +34,6 @@ pub struct MapDb {
 }
 
 impl MapDb {
-    ghost use Rattle.session_tests.specs.MemoryStates.{state_of};
-
     pub fn new(alloc: Global) -> MapDb {
         MapDb {
             alloc,
@@ -50,7 +48,7 @@ impl MapDb {
 
     fn put_pair(&mut self, key: &[u8], value: &[u8]) -> Result<(), DbFault>
         requires { self.old.in_transaction ≡ true }
-        ensures answer { AnswersChange (Put 0 key.now value.now) (state_of self.old) (state_of self.new) result }
+        ensures answer { AnswersChange (Put 0 key.now value.now) (memory_state self.old.in_transaction (pairs_in self.old.seen.entries) (pairs_in self.old.saved.entries) self.old.changes self.old.saved_changes self.old.has_changed) (memory_state self.new.in_transaction (pairs_in self.new.seen.entries) (pairs_in self.new.saved.entries) self.new.changes self.new.saved_changes self.new.has_changed) result }
         ensures no_fault { IfErr result (λ fault. ¬ IsDiskFault fault) }
     {
         if let Some(fault) = pair_fault(key, value) {
@@ -76,8 +74,8 @@ impl MapDb {
 
     fn take_out(&mut self, key: &[u8]) -> Result<bool, DbFault>
         requires { self.old.in_transaction ≡ true }
-        ensures was_there { IfOk result (λ was. was ≡ is_some (value_at (state_of self.old).seen key.now)) }
-        ensures answer { AnswersChange (Del key.now) (state_of self.old) (state_of self.new) result }
+        ensures was_there { IfOk result (λ was. was ≡ is_some (value_at (pairs_in self.old.seen.entries) key.now)) }
+        ensures answer { AnswersChange (Del key.now) (memory_state self.old.in_transaction (pairs_in self.old.seen.entries) (pairs_in self.old.saved.entries) self.old.changes self.old.saved_changes self.old.has_changed) (memory_state self.new.in_transaction (pairs_in self.new.seen.entries) (pairs_in self.new.saved.entries) self.new.changes self.new.saved_changes self.new.has_changed) result }
         ensures no_fault { IfErr result (λ fault. ¬ IsDiskFault fault) }
     {
         if self.seen.get(key).is_none() {
@@ -98,11 +96,10 @@ impl MapDb {
 impl<D: Disk> Db<D> for MapDb {
     ghost use Rattle.std.specs.Prelude.{drop};
     ghost use Rattle.session_tests.specs.MemorySessions.{counting_kind, outside_same};
-    ghost use Rattle.session_tests.specs.MemoryStates.{state_of};
 
     ghost kind = { counting_kind 9 };
 
-    ghost state = { λ s. state_of s };
+    ghost state = { λ s. memory_state s.in_transaction (pairs_in s.seen.entries) (pairs_in s.saved.entries) s.changes s.saved_changes s.has_changed };
 
     ghost tie = { λ _ _. Unit {0} };
 
