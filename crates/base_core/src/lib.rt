@@ -8,7 +8,9 @@ pub use base_bytes::{
     Pair, Piece, SCRIPT_LIMIT, SKIP_LIMIT, Steps, Text, VALUE_LIMIT, bad_escape, compare_keys,
     escape_into, escaped_size, fields_read_back, part_at, u32_at, u64_at, unescape,
 };
-pub use base_devices::{Disk, Failed, Host, NAME_LIMIT, Name, ReadFault, Spool, read_whole};
+pub use base_devices::{
+    Disk, Failed, Host, NAME_LIMIT, Name, ReadFault, Spool, counted, read_whole,
+};
 pub use base_notes::{
     Action, Backend, Device, LimitName, Note, NoteText, Options, Outcome, STATUS_ABSENT,
     STATUS_BAD_LINE, STATUS_DAMAGED, STATUS_DEVICE_FAULT, STATUS_DONE, STATUS_EXISTS, STATUS_LIMIT,

@@ -5,14 +5,17 @@
 //!   host     a disk with standard output and standard error
 //!   reading  a file is read whole
 //!   spool    a folder of message files
+//!   faults   what a real device counts
 #![tactic(auto)]
 
 mod disk;
+mod faults;
 mod host;
 mod reading;
 mod spool;
 
 pub use disk::{Disk, Failed};
+pub use faults::counted;
 pub use host::Host;
 pub use reading::{ReadFault, read_whole};
 pub use spool::{NAME_LIMIT, Name, Spool};

@@ -1,5 +1,5 @@
 // A disk of two real files.
-ghost use Rattle.std.specs.Prelude.{◌≡◌, IsErr, MatchResult, length};
+ghost use Rattle.std.specs.Prelude.{◌≡◌, length};
 ghost use Rattle.base_devices.specs.Causes.{HasCause};
 ghost use Rattle.base_devices.specs.CrashImages.{GoesOn};
 ghost use Rattle.base_devices.specs.DiskCalls.{DiskCall, Writes, Publishes};
@@ -8,7 +8,7 @@ ghost use Rattle.file_devices.specs.Files.{next_count, raised_by, no_calls, file
 
 use crate::real::{MainFile, NewFile};
 use base_bytes::Text;
-use base_devices::{Disk, Failed};
+use base_devices::{Disk, Failed, counted};
 use std::io::{self, ErrorKind};
 use std::marker::Model;
 use std::os::fd::AsRawFd;
@@ -176,18 +176,4 @@ fn publish_new<R: Files + AllocGlobal + Drop>(
     fresh: Option<NewFile<R>>,
 ) -> io::Result<()> {
     fresh.ok_or(ErrorKind::NotFound)?.publish(rt, path)
-}
-
-/// The answer, whose error is counted as a fault. The count stands still at its last value.
-pub(crate) fn counted<T: Drop, E: Drop>(faults: &mut u64, answer: Result<T, E>) -> Result<T, Failed>
-    ensures cause { HasCause faults.old faults.new result }
-    ensures value { MatchResult result (λ v. answer ≡ Ok v) (λ _. IsErr answer) }
-{
-    match answer {
-        Ok(value) => Ok(value),
-        Err(_) => {
-            *faults = faults.saturating_add(1);
-            Err(Failed)
-        }
-    }
 }

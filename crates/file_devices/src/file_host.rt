@@ -7,9 +7,9 @@ ghost use Rattle.base_devices.specs.DiskCalls.{DiskCall, Writes, Publishes};
 ghost use Rattle.base_devices.specs.Time.{goes_same, goes_then};
 ghost use Rattle.file_devices.specs.Files.{next_count, raised_by, no_calls, file_state, file_moment, file_streams};
 
-use crate::file::{FileDisk, counted};
+use crate::file::FileDisk;
 use base_bytes::Text;
-use base_devices::{Disk, Failed, Host};
+use base_devices::{Disk, Failed, Host, counted};
 use std::fmt;
 use std::io::{Eprint, Print};
 use std::marker::Model;

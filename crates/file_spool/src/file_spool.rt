@@ -2,9 +2,8 @@
 ghost use Rattle.std.specs.Prelude.{◌≡◌, ◌≤◌, IfOk, length};
 ghost use Rattle.file_spool.specs.FileSpool.{untold_folder, untold_distinct};
 
-use crate::faults::counted;
 use base_bytes::Text;
-use base_devices::{Failed, Name, Spool};
+use base_devices::{Failed, Name, Spool, counted};
 use std::fs::{self, File, OpenFile, ReadDir};
 use std::io::{self, ErrorKind};
 use std::marker::Model;

@@ -1,7 +1,6 @@
 //! A real folder of message files. Nothing is proved of the files themselves: read this crate by eye.
 #![tactic(auto)]
 
-mod faults;
 mod file_spool;
 #[cfg(test)]
 mod tests;

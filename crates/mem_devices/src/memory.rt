@@ -322,8 +322,7 @@ impl Disk for MemDisk {
                 self.landings.settle();
                 Ok(())
             }
-            Admission::Refused => Err(Failed),
-            Admission::NoRoom => Err(Failed),
+            Admission::Refused | Admission::NoRoom => Err(Failed),
         }
     }
 
@@ -402,8 +401,7 @@ impl Disk for MemDisk {
                 self.new_file = NewFile::Whole;
                 Ok(())
             }
-            Admission::Refused => Err(Failed),
-            Admission::NoRoom => Err(Failed),
+            Admission::Refused | Admission::NoRoom => Err(Failed),
         }
     }
 
@@ -460,8 +458,7 @@ impl MemDisk {
         let is_stopped = self.landings.is_stopped(1);
         match self.log.print(count, is_listed || is_stopped) {
             Admission::Served => Ok(()),
-            Admission::Refused => Err(Failed),
-            Admission::NoRoom => Err(Failed),
+            Admission::Refused | Admission::NoRoom => Err(Failed),
         }
     }
 

@@ -2,10 +2,10 @@
 ghost use Rattle.std.specs.Prelude.{◌≡◌, IsErr, MatchResult};
 ghost use Rattle.base_devices.specs.Causes.{HasCause};
 
-use base_devices::Failed;
+use crate::disk::Failed;
 
 /// The answer, whose error is counted as a fault. The count stands still at its last value.
-pub(crate) fn counted<T: Drop, E: Drop>(faults: &mut u64, answer: Result<T, E>) -> Result<T, Failed>
+pub fn counted<T: Drop, E: Drop>(faults: &mut u64, answer: Result<T, E>) -> Result<T, Failed>
     ensures cause { HasCause faults.old faults.new result }
     ensures value { MatchResult result (λ v. answer ≡ Ok v) (λ _. IsErr answer) }
 {
