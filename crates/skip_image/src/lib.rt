@@ -2,11 +2,13 @@
 //!
 //! - `image.rt`: the file, how it is read from a disk, and how it grows, is patched and is cut.
 //! - `records.rt`: the header, and what stands in a record.
+//! - `pointers.rt`: a pointer is set, in the image and on the disk.
 //! - `fields.rt`: the fields of a head, at an offset of some bytes.
 #![tactic(auto)]
 
 mod fields;
 mod image;
+mod pointers;
 mod records;
 
 pub use image::Image;

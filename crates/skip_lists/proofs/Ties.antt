@@ -1,9 +1,10 @@
 -- A tie under permitted writes.
-use Rattle.std.proofs.Common.{Some, ◌≡◌, ℕ, ◌+◌, ◌-◌, ◌++◌, List, length, take, drop, refl, sym, ap, subst, ◌∙◌, inr, true, arith, Option}
-use Rattle.std.proofs.lemmas.List.{take_all, drop_all, drop_at, append-nil, length-append}
+use Rattle.std.proofs.Common.{Some, ◌≡◌, ◌≤◌, ℕ, ◌+◌, ◌-◌, ◌++◌, List, length, take, drop, refl, sym, ap, subst, ◌∙◌, inr, true, arith, Option}
+use Rattle.std.proofs.Math.Nat.{max-le}
+use Rattle.std.proofs.lemmas.List.{take_all, drop_all, drop_at, append-nil, length-append, length-take}
 use Rattle.base_bytes.specs.OrderedMap.{Map}
 use Rattle.base_bytes.specs.Fields.{part}
-use Rattle.base_bytes.specs.Landing.{written_at, Lands}
+use Rattle.base_bytes.specs.Landing.{written_at, Lands, Shortens}
 use Rattle.base_bytes.proofs.Landings.{lands_whole}
 use Rattle.base_devices.specs.CrashImages.{Image, DiskState, IsMoment, GoesOn, Shows, Reads}
 use Rattle.base_devices.specs.DiskCalls.{DiskCall, OnFile, Follows, with_bytes}
@@ -17,7 +18,7 @@ use Rattle.skip_spec.proofs.Cuts.{dirty_image, append_permitted}
 use Rattle.skip_spec.proofs.Landed.{landing_near}
 use Rattle.skip_spec.proofs.Meanings.{opens_alike}
 use Rattle.skip_lists.specs.Heads.{HasSlots, SetsPointer, MaySet}
-use Rattle.skip_lists.specs.Tie.{OnBytes, IsLeft, TiedToBase, TiedBy, LeavesMap}
+use Rattle.skip_lists.specs.Tie.{OnBytes, IsLeft, TiedToBase, TiedBy, LeavesEach, LeavesMap, IsUpTo, StaysUpTo}
 use Rattle.skip_lists.proofs.Permitted.{set_permitted}
 use Rattle.skip_lists.proofs.Setting.{set_as_written}
 
@@ -112,7 +113,45 @@ module _ (base b added c : List ℕ) (says : Contents) (s : DiskState) (t : Tied
   pub append_tied : (y : DiskState) → Follows (λ b c. Lands b at bytes c) s y → (Shows y → Reads y c) → TiedToBase base says c y
   append_tied y follows reads = write_tied base b says s t y at bytes c past_end append_own follows reads
 
--- two runs of calls, one after the other
-pub then_leaves : (m : Map) (a b d : DiskState) → GoesOn a b → GoesOn b d → b.mark ≡ a.mark → LeavesMap m a b → LeavesMap m b d → LeavesMap m a d
-then_leaves m a b d ab bd mark first second = each_then a b d (λ c n. (n ≡ a.mark) × OnBytes (λ file. Opens file m) c) ab bd first
+-- ---- runs of calls
+
+-- two runs, one after the other
+pub then_each : (P : List ℕ → Type 0) (a b d : DiskState) → GoesOn a b → GoesOn b d → b.mark ≡ a.mark → LeavesEach P a b → LeavesEach P b d → LeavesEach P a d
+then_each P a b d ab bd mark first second = each_then a b d (λ c n. (n ≡ a.mark) × OnBytes P c) ab bd first
     (record { each = λ c n left. let x = second.each c n left in (x.0 ∙ mark, x.1) })
+
+pub then_leaves : (m : Map) (a b d : DiskState) → GoesOn a b → GoesOn b d → b.mark ≡ a.mark → LeavesMap m a b → LeavesMap m b d → LeavesMap m a d
+then_leaves m a b d ab bd mark first second = then_each (λ file. Opens file m) a b d ab bd mark first second
+
+pub then_up_to : (most : ℕ) (a b d : DiskState) → GoesOn a b → GoesOn b d → b.mark ≡ a.mark → StaysUpTo most a b → StaysUpTo most b d → StaysUpTo most a d
+then_up_to most a b d ab bd mark first second start =
+    let one = first start in
+    let two = second one.0 in (two.0, then_each (λ file. length file ≤ most) a b d ab bd mark one.1 two.1)
+
+-- a call after which nothing else may be left
+pub same_up_to : (most : ℕ) (s y : DiskState) → DiskCall s y → ((c : Image) → y.leaves c → s.leaves c) → StaysUpTo most s y
+same_up_to most s y call from start =
+    let after : IsUpTo most y = λ c left. start c (from c left) in
+    (after, first_call s y (OnBytes (λ file. length file ≤ most)) call start after)
+
+-- a write that ends by then
+pub write_up_to : (most : ℕ) (s y : DiskState) (at : ℕ) (bytes : List ℕ) → at + length bytes ≤ most → DiskCall s y → Follows (λ b c. Lands b at bytes c) s y → StaysUpTo most s y
+write_up_to most s y at bytes ends call follows start =
+    let after : IsUpTo most y = λ c left.
+        let from = follows.from c left in
+        let old = start from.0 from.1 in
+        let step = subst (λ (d : Image). OnFile (λ b c. Lands b at bytes c) d c) old.1 from.2 in
+        (step.0, step.1, omega (arith, step.2.no_longer, max-le old.2 ends))
+    in
+    (after, first_call s y (OnBytes (λ file. length file ≤ most)) call start after)
+
+-- a cut
+pub cut_up_to : (most : ℕ) (s y : DiskState) (to : ℕ) → DiskCall s y → Follows (λ b c. Shortens b to c) s y → StaysUpTo most s y
+cut_up_to most s y to call follows start =
+    let after : IsUpTo most y = λ c left.
+        let from = follows.from c left in
+        let old = start from.0 from.1 in
+        let step = subst (λ (d : Image). OnFile (λ b c. Shortens b to c) d c) old.1 from.2 in
+        (step.0, step.1, omega (arith, ap length step.2.front, length-take (length step.0) old.0, old.2))
+    in
+    (after, first_call s y (OnBytes (λ file. length file ≤ most)) call start after)

@@ -57,6 +57,18 @@ IsWithin limit bytes changed = length bytes + (if changed then 24 else 0) ≤ li
 
 -- ---- moments
 
--- at each moment only files that open to this map could be left, and the mark stood
+-- at each moment only files with P could be left, and the mark stood
+abbrev pub LeavesEach : (List ℕ → Type 0) → DiskState → DiskState → Type 0
+LeavesEach P old new = LeavesOnly old new (λ image mark. (mark ≡ old.mark) × OnBytes P image)
+
+-- at each moment only files that open to this map could be left
 abbrev pub LeavesMap : Map → DiskState → DiskState → Type 0
-LeavesMap m old new = LeavesOnly old new (λ image mark. (mark ≡ old.mark) × OnBytes (λ file. Opens file m) image)
+LeavesMap m old new = LeavesEach (λ file. Opens file m) old new
+
+-- each image that a crash leaves is a file of so many bytes at most
+abbrev pub IsUpTo : ℕ → DiskState → Type 0
+IsUpTo most disk = (image : Image) → disk.leaves image → OnBytes (λ file. length file ≤ most) image
+
+-- where each image was a file of so many bytes at most, it is so at each moment and at the end
+abbrev pub StaysUpTo : ℕ → DiskState → DiskState → Type 0
+StaysUpTo most old new = IsUpTo most old → IsUpTo most new × LeavesEach (λ file. length file ≤ most) old new
