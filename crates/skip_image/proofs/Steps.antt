@@ -36,14 +36,20 @@ module _ (file : List ℕ) (bound at v : ℕ) (is : v ≡ pointer_under file bou
   pub step_to_end : v ≡ 0 → 0 ≡ successor_under file bound at
   step_to_end z = sym (steps_past ∙ chosen_first (eqb v 0) 0 (cond (is_of file v Gone) (pointer_in file v 0) v) (eq-eqb v 0 z))
 
-  pub step_to_put : v ≢ 0 → slice_index file v ≢ 45 → v ≡ successor_under file bound at
-  step_to_put nz ne =
+  pub step_to_live : v ≢ 0 → is_of file v Gone ≡ false → v ≡ successor_under file bound at
+  step_to_live nz put =
       sym (steps_past
       ∙ chosen_second (eqb v 0) 0 (cond (is_of file v Gone) (pointer_in file v 0) v) (ne_eqb v 0 nz)
-      ∙ chosen_second (is_of file v Gone) (pointer_in file v 0) v (is_not_gone file v ne))
+      ∙ chosen_second (is_of file v Gone) (pointer_in file v 0) v put)
+
+  pub step_to_put : v ≢ 0 → slice_index file v ≢ 45 → v ≡ successor_under file bound at
+  step_to_put nz ne = step_to_live nz (is_not_gone file v ne)
+
+  pub step_over_gone : v ≢ 0 → is_of file v Gone ≡ true → pointer_in file v 0 ≡ successor_under file bound at
+  step_over_gone nz gone =
+      sym (steps_past
+      ∙ chosen_second (eqb v 0) 0 (cond (is_of file v Gone) (pointer_in file v 0) v) (ne_eqb v 0 nz)
+      ∙ chosen_first (is_of file v Gone) (pointer_in file v 0) v gone)
 
   pub step_past_gone : v ≢ 0 → slice_index file v ≡ 45 → pointer_in file v 0 ≡ successor_under file bound at
-  step_past_gone nz e =
-      sym (steps_past
-      ∙ chosen_second (eqb v 0) 0 (cond (is_of file v Gone) (pointer_in file v 0) v) (ne_eqb v 0 nz)
-      ∙ chosen_first (is_of file v Gone) (pointer_in file v 0) v (is_gone file v e))
+  step_past_gone nz e = step_over_gone nz (is_gone file v e)

@@ -5,9 +5,10 @@ ghost use Rattle.skip_form.specs.Fields.{pointer_in, u16_in};
 ghost use Rattle.skip_form.specs.Flaws.{head_in};
 ghost use Rattle.skip_spec.specs.Near.{free_slot_of};
 ghost use Rattle.skip_spec.specs.Records.{head_size_of};
+ghost use Rattle.skip_spec.specs.Successor as successor;
 ghost use Rattle.skip_lists.specs.Heads.{HasSlots};
 
-use base_bytes::u64_at;
+use base_bytes::{u32_at, u64_at};
 
 /// The big-endian number of 16 bits at an offset.
 fn u16_at(bytes: &[u8], at: usize) -> u16
@@ -33,6 +34,22 @@ pub(crate) fn key_size_at(bytes: &[u8], at: usize) -> usize
     u16_at(bytes, at + 2) as usize
 }
 
+/// How long the value of the record at an offset is.
+pub(crate) fn value_size_at(bytes: &[u8], at: usize) -> usize
+    requires { at + 8 ≤ length bytes.now }
+    ensures { result ≡ (head_in bytes.now at).value_len }
+{
+    u32_at(bytes, at + 4) as usize
+}
+
+/// The level of the record at an offset.
+pub(crate) fn level_at(bytes: &[u8], at: usize) -> u8
+    requires { at + 8 ≤ length bytes.now }
+    ensures { result ≡ (head_in bytes.now at).level }
+{
+    bytes[at + 1]
+}
+
 /// A pointer of the dummy or of a put record.
 pub(crate) fn pointer_at(bytes: &[u8], at: u64, slot: u8) -> u64
     requires there { HasSlots bytes.now at }
@@ -40,6 +57,22 @@ pub(crate) fn pointer_at(bytes: &[u8], at: u64, slot: u8) -> u64
     ensures { result ≡ pointer_in bytes.now at slot }
 {
     u64_at(bytes, at as usize + 8 + 8 * slot as usize)
+}
+
+fn below_or_zero(bound: u64, offset: u64) -> u64
+    ensures { result ≡ successor.below_or_zero bound offset }
+{
+    if offset < bound { offset } else { 0 }
+}
+
+/// The greatest of the two level-zero slots that is below the bound, or 0.
+pub(crate) fn pointer_under(bytes: &[u8], at: u64, bound: u64) -> u64
+    requires there { HasSlots bytes.now at }
+    ensures { result ≡ successor.pointer_under bytes.now bound at }
+{
+    let first = below_or_zero(bound, pointer_at(bytes, at, 0));
+    let second = below_or_zero(bound, pointer_at(bytes, at, 1));
+    first.max(second)
 }
 
 /// The level-zero slot, 0 or 1, that a writer takes: the one at or above the bound; where neither is, the lesser one;

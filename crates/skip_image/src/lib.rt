@@ -6,9 +6,17 @@
 //! - `fields.rt`: the fields of a head, at an offset of some bytes.
 #![tactic(auto)]
 
+mod checks;
 mod fields;
+mod front;
 mod image;
+mod live;
+mod marks;
 mod pointers;
 mod records;
+mod verify;
+mod way;
+mod words;
 
 pub use image::Image;
+pub use verify::Summary;

@@ -1,8 +1,7 @@
 // What stands in the records of an image.
-ghost use Rattle.std.specs.Prelude.{◌≡◌};
-ghost use Rattle.skip_spec.specs.Successor as successor;
-
-use crate::fields::{free_slot_at, head_size_at, key_size_at, pointer_at};
+use crate::fields::{
+    free_slot_at, head_size_at, key_size_at, level_at, pointer_at, pointer_under, value_size_at,
+};
 use crate::image::Image;
 use base_bytes::{Steps, part_at, u32_at};
 use skip_form::{Head, Header, head_at, read_header};
@@ -64,7 +63,7 @@ impl Image {
         let bytes = self.bytes();
         let start = at as usize;
         let front = head_size_at(bytes, start) + key_size_at(bytes, start);
-        part_at(bytes, start + front, u32_at(bytes, start + 4) as usize)
+        part_at(bytes, start + front, value_size_at(bytes, start))
     }
 
     /// The level of the record at an offset.
@@ -72,7 +71,7 @@ impl Image {
         requires there { HasRecord self.now.bytes at }
         ensures { result ≡ (head_in self.now.bytes at).level }
     {
-        self.bytes()[at as usize + 1]
+        level_at(self.bytes(), at as usize)
     }
 
     /// The tail check that stands in the record at an offset.
@@ -116,7 +115,7 @@ impl Image {
         ensures cost { steps.new ≡ steps.old + step_cost self.now.bytes bound at }
     {
         steps.tick();
-        let pointer = self.pointer_under(at, bound);
+        let pointer = pointer_under(self.bytes(), at, bound);
         if pointer == 0 {
             return 0;
         }
@@ -136,20 +135,4 @@ impl Image {
     {
         free_slot_at(self.bytes(), at, bound)
     }
-
-    // The greatest of the two level-zero slots that is below the bound, or 0.
-    fn pointer_under(&self, at: u64, bound: u64) -> u64
-        requires there { HasSlots self.now.bytes at }
-        ensures { result ≡ successor.pointer_under self.now.bytes bound at }
-    {
-        let first = below_or_zero(bound, pointer_at(self.bytes(), at, 0));
-        let second = below_or_zero(bound, pointer_at(self.bytes(), at, 1));
-        first.max(second)
-    }
-}
-
-fn below_or_zero(bound: u64, offset: u64) -> u64
-    ensures { result ≡ successor.below_or_zero bound offset }
-{
-    if offset < bound { offset } else { 0 }
 }
