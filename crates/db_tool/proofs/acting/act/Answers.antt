@@ -3,7 +3,7 @@ use Rattle.base_devices.specs.HostCalls.{moment}
 use Rattle.base_devices.proofs.FrameLemmas.{only_none}
 use Rattle.base_notes.specs.declared.note.Note.{Note}
 use Rattle.base_notes.specs.declared.note.Note.TheVariants.{BadLine}
-use Rattle.db_tool.specs.Doing.{DoesTask, DrawsWords, during}
+use Rattle.db_tool.specs.Doing.{DoesTask, during}
 use Rattle.db_tool.specs.Tasks.{given, task_if, task_of}
 use Rattle.db_tool.proofs.PrintLemmas.{printed_none}
 use Rattle.db_tool.proofs.TaskLemmas.{rests_of, looks_nothing, looks_does}
