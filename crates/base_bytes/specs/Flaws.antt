@@ -1,7 +1,7 @@
 -- How a flaw is printed.
 use Rattle.std.specs.Prelude.{ℕ, List, codes}
 use Rattle.base_bytes.specs.declared.flaw.Flaw.{Flaw}
-use Rattle.base_bytes.specs.declared.flaw.Flaw.TheVariants.{Short, Magic, Version, Check, Kind, Level, Padding, Extended, Tail, Size, Place, Slot, Order, Link, Count, Unbuilt, NoTab, BadEscape, EmptyKey}
+use Rattle.base_bytes.specs.declared.flaw.Flaw.TheVariants.{Short, Magic, Version, Check, Kind, Level, Padding, Extended, Tail, Size, Place, Slot, Order, Link, Count, NoTab, BadEscape, EmptyKey}
 
 abbrev pub flaw_text : Flaw → List ℕ
 flaw_text Short = codes "Short"
@@ -19,7 +19,6 @@ flaw_text Slot = codes "Slot"
 flaw_text Order = codes "Order"
 flaw_text Link = codes "Link"
 flaw_text Count = codes "Count"
-flaw_text Unbuilt = codes "Unbuilt"
 flaw_text NoTab = codes "NoTab"
 flaw_text BadEscape = codes "BadEscape"
 flaw_text EmptyKey = codes "EmptyKey"

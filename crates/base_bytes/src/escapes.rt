@@ -87,7 +87,8 @@ pub fn escape_into(bytes: &[u8], into: &mut [u8]) -> Escaped
     ensures field { take result.written into.new ≡ escaped (take result.read bytes.now) }
     ensures read { result.read ≤ length bytes.now }
     ensures written { result.written ≤ length into.new }
-    ensures stops_for_room { (result.read ≡ length bytes.now) ⊎ (length into.new < result.written + 2) }
+    ensures stops_for_room { (result.read ≡ length bytes.now)
+        ⊎ (length into.new < result.written + 2) }
 {
     let mut read = 0;
     let mut written = 0;
@@ -100,8 +101,10 @@ pub fn escape_into(bytes: &[u8], into: &mut [u8]) -> Escaped
 
 // Whether what follows an FF makes an escape of it.
 fn ends_escape(rest: &[u8]) -> bool
-    ensures yes { result ≡ true → (byte : ℕ) × (second : ℕ) × (after : List ℕ) × (rest.now ≡ second ∷ after) × (escaped_byte byte ≡ 0xff ∷ second ∷ []) }
-    ensures no { result ≡ false → (byte : ℕ) (after : List ℕ) → 0xff ∷ rest.now ≡ escaped_byte byte ++ after → ⊥ }
+    ensures yes { result ≡ true → (byte : ℕ) × (second : ℕ) × (after : List ℕ)
+        × (rest.now ≡ second ∷ after) × (escaped_byte byte ≡ 0xff ∷ second ∷ []) }
+    ensures no { result ≡ false → (byte : ℕ) (after : List ℕ)
+        → 0xff ∷ rest.now ≡ escaped_byte byte ++ after → ⊥ }
 {
     match rest {
         [second, ..] => unescaped(*second).is_some(),
@@ -136,7 +139,8 @@ struct Spelled {
 fn first_spelled(field: &[u8]) -> Spelled
     requires some { 0 < length field.now }
     requires spelled { (bytes : List ℕ) × Spells bytes field.now }
-    ensures first { (byte : ℕ) (bytes : List ℕ) → Spells (byte ∷ bytes) field.now → (result.byte ≡ byte) × Spells bytes (drop result.size field.now) }
+    ensures first { (byte : ℕ) (bytes : List ℕ) → Spells (byte ∷ bytes) field.now
+        → (result.byte ≡ byte) × Spells bytes (drop result.size field.now) }
     ensures size { (0 < result.size) × (result.size ≤ length field.now) }
 {
     let byte = field[0];

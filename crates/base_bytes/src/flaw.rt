@@ -35,8 +35,6 @@ pub enum Flaw {
     Link,
     /// The header counts another number of records.
     Count,
-    /// The file is in a form that this program does not read yet.
-    Unbuilt,
     /// A line of flat text has no TAB.
     NoTab,
     /// An escape byte of flat text begins no escape.
@@ -75,7 +73,6 @@ impl Flaw {
             Flaw::Order => "Order",
             Flaw::Link => "Link",
             Flaw::Count => "Count",
-            Flaw::Unbuilt => "Unbuilt",
             Flaw::NoTab => "NoTab",
             Flaw::BadEscape => "BadEscape",
             Flaw::EmptyKey => "EmptyKey",

@@ -32,7 +32,8 @@ fn make_absent<H: Host>(host: &mut H) -> Result<(), Failed>
 
 // Prints whether the main file opens, or its first flaw. It only reads.
 fn check<H: Host>(alloc: Global, host: &mut H) -> Note
-    ensures does { (words : Stream) → DoesAction (asking flat_kind false Consistent (given words []))
+    ensures does { (words : Stream)
+        → DoesAction (asking flat_kind false Consistent (given words []))
         (moment (H.state host.old) (H.streams host.old))
         (moment (H.state host.new) (H.streams host.new)) result }
     ensures rest { H.host_rest host.old host.new }

@@ -105,8 +105,8 @@ pub fn run_job<H: Host, R: Rng>(alloc: Global, job: &Job, host: &mut H, rng: &mu
         (but_warned (H.state host.new) (H.streams host.old) (H.streams host.new)) result.note)
         job.now }
     ensures draws { is_built job.now ≡ true → OnDatabase (given (R.stream rng.old) [])
-        (λ asked. DrawsFor asked (H.state host.old) (R.stream rng.old) (R.stream rng.new) result.note)
-        job.now }
+        (λ asked. DrawsFor asked (H.state host.old) (R.stream rng.old) (R.stream rng.new)
+        result.note) job.now }
     ensures usage { is_built job.now ≡ false → (result.note ≡ Note.Usage)
         × SameDisk (H.state host.old) (H.state host.new)
         × SamePrints (H.streams host.old) (H.streams host.new) }

@@ -88,10 +88,12 @@ pub trait Db<D: Disk> {
     /// Puts the pair into the map seen. All faults are possible answers. The word chooses how the backend lays
     /// the pair down, where that is open.
     fn store(&mut self, disk: &mut D, word: u32, key: &[u8], value: &[u8]) -> Result<(), DbFault>
-        requires within { (state self.old).is_broken ≡ false → (state self.old).in_transaction ≡ true }
+        requires within { (state self.old).is_broken ≡ false
+            → (state self.old).in_transaction ≡ true }
         requires tied { tie self.old disk.old }
         ensures change { MakesChange kind (Put word key.now value.now)
-            (over (D.state disk.old) (state self.old)) (over (D.state disk.new) (state self.new)) result }
+            (over (D.state disk.old) (state self.old))
+            (over (D.state disk.new) (state self.new)) result }
         ensures unharmed { LeavesDisk result disk.old disk.new }
         ensures idle { kind.works_in_place ≡ false → disk.new ≡ disk.old }
         ensures tied { tie self.new disk.new }
@@ -101,11 +103,14 @@ pub trait Db<D: Disk> {
     /// length, changes and writes nothing. It answers `Broken`, `Full`, `NoMemory` and `DiskFault` besides Ok;
     /// `Full` only where the key is there.
     fn delete(&mut self, disk: &mut D, key: &[u8]) -> Result<bool, DbFault>
-        requires within { (state self.old).is_broken ≡ false → (state self.old).in_transaction ≡ true }
+        requires within { (state self.old).is_broken ≡ false
+            → (state self.old).in_transaction ≡ true }
         requires tied { tie self.old disk.old }
-        ensures was_there { IfOk result (λ was. was ≡ is_some (value_at (state self.old).seen key.now)) }
+        ensures was_there { IfOk result
+            (λ was. was ≡ is_some (value_at (state self.old).seen key.now)) }
         ensures change { MakesChange kind (Del key.now)
-            (over (D.state disk.old) (state self.old)) (over (D.state disk.new) (state self.new)) result }
+            (over (D.state disk.old) (state self.old))
+            (over (D.state disk.new) (state self.new)) result }
         ensures unharmed { LeavesDisk result disk.old disk.new }
         ensures untouched { IfOk result (λ was. was ≡ false → disk.new ≡ disk.old) }
         ensures idle { kind.works_in_place ≡ false → disk.new ≡ disk.old }
@@ -115,22 +120,27 @@ pub trait Db<D: Disk> {
     /// Makes the map seen the committed one. A crash within leaves one of the two, and after Ok only the map seen.
     /// A transaction that changed nothing writes nothing. It answers `Broken` and `DiskFault` besides Ok.
     fn commit(&mut self, disk: &mut D) -> Result<(), DbFault>
-        requires within { (state self.old).is_broken ≡ false → (state self.old).in_transaction ≡ true }
+        requires within { (state self.old).is_broken ≡ false
+            → (state self.old).in_transaction ≡ true }
         requires tied { tie self.old disk.old }
         ensures commit { Commits kind
-            (over (D.state disk.old) (state self.old)) (over (D.state disk.new) (state self.new)) result }
+            (over (D.state disk.old) (state self.old))
+            (over (D.state disk.new) (state self.new)) result }
         ensures has_memory { ¬ IsErrOf result NoMemory }
         ensures unharmed { LeavesDisk result disk.old disk.new }
-        ensures untouched { (state self.old).has_changed ≡ false → OnOk result (disk.new ≡ disk.old) }
+        ensures untouched { (state self.old).has_changed ≡ false
+            → OnOk result (disk.new ≡ disk.old) }
         ensures tied { tie self.new disk.new }
         ensures rest { D.disk_rest disk.old disk.new };
 
     /// Goes back to the committed map. It answers `Broken` and `DiskFault` besides Ok.
     fn abort(&mut self, disk: &mut D) -> Result<(), DbFault>
-        requires within { (state self.old).is_broken ≡ false → (state self.old).in_transaction ≡ true }
+        requires within { (state self.old).is_broken ≡ false
+            → (state self.old).in_transaction ≡ true }
         requires tied { tie self.old disk.old }
         ensures abort { Aborts kind
-            (over (D.state disk.old) (state self.old)) (over (D.state disk.new) (state self.new)) result }
+            (over (D.state disk.old) (state self.old))
+            (over (D.state disk.new) (state self.new)) result }
         ensures has_memory { ¬ IsErrOf result NoMemory }
         ensures unharmed { LeavesDisk result disk.old disk.new }
         ensures idle { kind.works_in_place ≡ false → disk.new ≡ disk.old }

@@ -27,7 +27,8 @@ pub enum OpenFault {
 /// How many bytes the main file has, where it is there and has no more than `limit`. It is asked for its length
 /// once, and no other call is made.
 pub fn file_size<D: Disk>(disk: &mut D, limit: u64) -> Result<u64, OpenFault>
-    ensures answered { IfOk result (λ size. WhereRead (D.state disk.old) (λ main. IsLength main (Some size))) }
+    ensures answered { IfOk result (λ size. WhereRead (D.state disk.old)
+        (λ main. IsLength main (Some size))) }
     ensures within { IfOk result (λ size. size ≤ limit) }
     ensures refused { IfErr result (λ fault. WhereRead (D.state disk.old)
         (λ main. IsSizeRefusal limit main fault)) }

@@ -15,7 +15,8 @@ fn apply<D: Disk, B: Db<D>>(db: &mut B, disk: &mut D, change: &Change) -> Result
     requires within { (B.state db.old).is_broken ≡ false → (B.state db.old).in_transaction ≡ true }
     requires tied { B.tie db.old disk.old }
     ensures change { MakesChange B.kind change.now
-        (over (D.state disk.old) (B.state db.old)) (over (D.state disk.new) (B.state db.new)) result }
+        (over (D.state disk.old) (B.state db.old))
+        (over (D.state disk.new) (B.state db.new)) result }
     ensures unharmed { LeavesDisk result disk.old disk.new }
     ensures idle { B.kind.works_in_place ≡ false → disk.new ≡ disk.old }
     ensures tied { B.tie db.new disk.new }
@@ -36,7 +37,8 @@ fn apply_all<D: Disk, B: Db<D>>(db: &mut B, disk: &mut D, changes: &[Change]) ->
     requires within { (B.state db.old).in_transaction ≡ true }
     requires tied { B.tie db.old disk.old }
     ensures some { MakesSome B.kind changes.now
-        (over (D.state disk.old) (B.state db.old)) (over (D.state disk.new) (B.state db.new)) result }
+        (over (D.state disk.old) (B.state db.old))
+        (over (D.state disk.new) (B.state db.new)) result }
     ensures idle { B.kind.works_in_place ≡ false → disk.new ≡ disk.old }
     ensures tied { B.tie db.new disk.new }
     ensures rest { D.disk_rest disk.old disk.new }
@@ -54,7 +56,8 @@ fn give_up<D: Disk, B: Db<D>>(db: &mut B, disk: &mut D, fault: DbFault) -> DbFau
     requires within { (B.state db.old).is_broken ≡ false → (B.state db.old).in_transaction ≡ true }
     requires tied { B.tie db.old disk.old }
     ensures gives_up { GivesUp B.kind fault result
-        (over (D.state disk.old) (B.state db.old)) (over (D.state disk.new) (B.state db.new)) }
+        (over (D.state disk.old) (B.state db.old))
+        (over (D.state disk.new) (B.state db.new)) }
     ensures broken { (B.state db.old).is_broken ≡ true → disk.new ≡ disk.old }
     ensures idle { B.kind.works_in_place ≡ false → disk.new ≡ disk.old }
     ensures tied { B.tie db.new disk.new }
@@ -82,7 +85,8 @@ pub fn run_changes<D: Disk, B: Db<D>>(
     requires closed { (B.state db.old).is_broken ≡ false → (B.state db.old).in_transaction ≡ false }
     requires tied { B.tie db.old disk.old }
     ensures whole { MakesWhole B.kind changes.now
-        (over (D.state disk.old) (B.state db.old)) (over (D.state disk.new) (B.state db.new)) result }
+        (over (D.state disk.old) (B.state db.old))
+        (over (D.state disk.new) (B.state db.new)) result }
 
     // A broken session answers so and leaves the disk alone; so does a refusal, where files are rewritten whole.
     ensures broken { (B.state db.old).is_broken ≡ true

@@ -123,32 +123,15 @@ fn act_with_key<H: Host, B: Db<H>, R: Rng>(
     }
 }
 
-// Does an action; an empty key is refused as line 1.
-fn do_action<H: Host, B: Db<H>, R: Rng>(
-    alloc: Global,
-    action: &Action,
-    db: &mut B,
-    host: &mut H,
-    rng: &mut R,
-) -> Note
-    requires can { CanAct action.now }
-    requires sound { (B.state db.old).is_broken ≡ false }
-    requires closed { (B.state db.old).in_transaction ≡ false }
-    requires tied { B.tie db.old host.old }
-    ensures task { DoesTask B.kind
-        (task_of B.kind (B.state db.old) (given (R.stream rng.old) []) action.now)
-        (during (H.state host.old) (H.streams host.old) (B.state db.old))
-        (during (H.state host.new) (H.streams host.new) (B.state db.new)) result }
-    ensures words { DrawsWords
-        (task_of B.kind (B.state db.old) (given (R.stream rng.old) []) action.now)
-        (R.stream rng.old) (R.stream rng.new) result }
-    ensures tied { B.tie db.new host.new }
-    ensures rest { H.host_rest host.old host.new }
+// The outcome with this note.
+fn outcome_of(note: Note) -> Outcome
+    ensures note { result.note ≡ note }
+    ensures status { result.status ≡ status_of note }
 {
-    if has_no_key(action) {
-        return Note::BadLine { line: 1 };
+    Outcome {
+        status: note.status(),
+        note,
     }
-    act_with_key(alloc, action, db, host, rng)
 }
 
 /// Does an action with an open database, and prints what it prints in full before it ends.
@@ -180,9 +163,8 @@ pub fn act<H: Host, B: Db<H>, R: Rng>(
     ensures tied { B.tie db.new host.new }
     ensures rest { H.host_rest host.old host.new }
 {
-    let note = do_action(alloc, action, db, host, rng);
-    Outcome {
-        status: note.status(),
-        note,
+    if has_no_key(action) {
+        return outcome_of(Note::BadLine { line: 1 });
     }
+    outcome_of(act_with_key(alloc, action, db, host, rng))
 }

@@ -50,7 +50,8 @@ impl Event {
     }
 }
 
-/// What becomes of a call.
+/// What becomes of a call. A match has an arm for each, also where two do the same, since what the record notes is
+/// proved arm by arm.
 #[derive(Clone, Copy, Debug, PartialEq, Eq)]
 pub enum Admission {
     /// It does what it is to do.

@@ -322,7 +322,8 @@ impl Disk for MemDisk {
                 self.landings.settle();
                 Ok(())
             }
-            Admission::Refused | Admission::NoRoom => Err(Failed),
+            Admission::Refused => Err(Failed),
+            Admission::NoRoom => Err(Failed),
         }
     }
 
@@ -401,7 +402,8 @@ impl Disk for MemDisk {
                 self.new_file = NewFile::Whole;
                 Ok(())
             }
-            Admission::Refused | Admission::NoRoom => Err(Failed),
+            Admission::Refused => Err(Failed),
+            Admission::NoRoom => Err(Failed),
         }
     }
 
@@ -458,7 +460,8 @@ impl MemDisk {
         let is_stopped = self.landings.is_stopped(1);
         match self.log.print(count, is_listed || is_stopped) {
             Admission::Served => Ok(()),
-            Admission::Refused | Admission::NoRoom => Err(Failed),
+            Admission::Refused => Err(Failed),
+            Admission::NoRoom => Err(Failed),
         }
     }
 
