@@ -1,5 +1,8 @@
 -- A file in memory, as who holds its image sees it.
-use Rattle.std.specs.Prelude.{◌≡◌, ◌⊎◌, ℕ, ◌+◌, ◌-◌, ◌^◌, ◌≤◌, ◌==◌, ◌&&◌, not, if◌then◌else◌, List, ◌++◌, length, take}
+use Rattle.std.specs.Prelude.{◌≡◌, ◌⊎◌, ℕ, ◌+◌, ◌-◌, ◌^◌, ◌≤◌, ◌==◌, ◌&&◌, not, if◌then◌else◌, List, ◌++◌, length, take, Option}
+use Rattle.std.specs.Option.{option_map}
+use Rattle.base_devices.specs.CrashImages.{Fresh}
+use Rattle.base_devices.specs.DiskCalls.{fresh_bytes}
 use Rattle.base_bytes.specs.Fields.{part, u32_in}
 use Rattle.skip_form.specs.declared.header.Header.{Header}
 use Rattle.skip_form.specs.declared.head.Kind.TheVariants.{Gone}
@@ -40,3 +43,7 @@ abbrev pub step_cost : List ℕ → ℕ → ℕ → ℕ
 step_cost bytes bound at =
     let pointer = pointer_under bytes bound at in
     if not (pointer == 0) && is_of bytes pointer Gone then 2 else 1
+
+-- these bytes were added to a new file
+abbrev pub Adds : List ℕ → Option Fresh → Option Fresh → Type 0
+Adds bytes old new = fresh_bytes new ≡ option_map (λ (front : List ℕ). front ++ bytes) (fresh_bytes old)

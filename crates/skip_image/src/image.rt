@@ -1,6 +1,6 @@
 // A file in memory.
-use base_bytes::NoMemory;
-use base_devices::{Disk, ReadFault, read_whole};
+use base_bytes::{NoMemory, PIECE_SIZE};
+use base_devices::{Disk, Failed, ReadFault, read_whole};
 use std::alloc::Global;
 use std::marker::Model;
 
@@ -29,15 +29,15 @@ impl Model for Image {
 }
 
 impl Image {
-    ghost use Rattle.std.specs.Prelude.{◌≡◌, ◌≤◌, ◌+◌, ◌++◌, List, ℕ, length, take, vec_len, OnOk, IfOk};
+    ghost use Rattle.std.specs.Prelude.{◌≡◌, ◌≤◌, ◌+◌, ◌++◌, List, ℕ, length, take, vec_len, IsSome, OnOk, IfOk};
     ghost use Rattle.base_bytes.specs.Landing.{written_at};
-    ghost use Rattle.base_devices.specs.Causes.{FaultHasCause, IsReadFault};
+    ghost use Rattle.base_devices.specs.Causes.{FaultHasCause, HasCause, IsReadFault};
     ghost use Rattle.base_devices.specs.CrashImages.{Shows, Reads};
     ghost use Rattle.base_devices.specs.DiskCalls.{HasLength};
     ghost use Rattle.base_devices.specs.Frames.{StaysAs};
     ghost use Rattle.skip_form.specs.Sizes.{padded};
     ghost use Rattle.skip_form.specs.Spelling.{body_bytes};
-    ghost use Rattle.skip_image.specs.Image.{image_limit};
+    ghost use Rattle.skip_image.specs.Image.{image_limit, Adds};
 
     /// The bytes that the main file reads, whose length was answered before.
     pub fn load<D: Disk>(alloc: Global, disk: &mut D, size: u64) -> Result<Image, ReadFault>
@@ -67,6 +67,24 @@ impl Image {
             Ok(marks) => Ok(Image { bytes, marks }),
             Err(_) => Err(NoMemory),
         }
+    }
+
+    /// Adds the bytes to the new file, in order and in pieces of at most 65,536. It takes no memory.
+    pub fn write_new<D: Disk>(&self, disk: &mut D) -> Result<(), Failed>
+        requires begun { Shows (D.state disk.old) → IsSome (D.state disk.old).fresh }
+        ensures added { OnOk result (Adds self.now.bytes (D.state disk.old).fresh (D.state disk.new).fresh) }
+        ensures stays { StaysAs (D.state disk.old) (D.state disk.new) }
+        ensures cause { HasCause (D.state disk.old).faults (D.state disk.new).faults result }
+        ensures rest { D.disk_rest disk.old disk.new }
+    {
+        let bytes = self.bytes();
+        let mut at = 0;
+        while at < bytes.len() {
+            let end = bytes.len().min(at + PIECE_SIZE);
+            disk.new_write(&bytes[at..end])?;
+            at = end;
+        }
+        Ok(())
     }
 
     /// The number of bytes.
