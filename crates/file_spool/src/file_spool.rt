@@ -2,6 +2,7 @@
 ghost use Rattle.std.specs.Prelude.{◌≡◌, ◌≤◌, IfOk, length};
 ghost use Rattle.file_spool.specs.FileSpool.{untold_folder, untold_distinct};
 
+use crate::ahead::{Ahead, copy_front};
 use base_bytes::Text;
 use base_devices::{Failed, Name, Spool, counted};
 use std::fs::{self, File, OpenFile, ReadDir};
@@ -15,7 +16,8 @@ use std::rt::Files;
 /// Names come in the system's order, and what is no regular file by its own type, as a link or a folder, is passed over.
 /// Each of these is a fault: a name that is not UTF-8 or has more than 255 bytes, the 16,777,217th entry, a file that
 /// went away, and want of memory. Nothing is opened before the first call. One file is open at a time: the one that was
-/// asked last, until another is asked.
+/// asked last, until another is asked. Its bytes are read 16,384 at a time, and what was read is not asked again until
+/// bytes elsewhere are.
 ///
 /// Nothing here is proved of the files themselves: the contract speaks of the count of faults alone.
 #[derive(Drop)]
@@ -24,6 +26,7 @@ pub struct FileSpool<R: Files + AllocGlobal + Clone + Drop> {
     folder: Text,
     entries: Option<ReadDir<R>>,
     open: Option<OpenMessage<R>>,
+    ahead: Ahead,
     faults: u64,
 }
 
@@ -43,6 +46,8 @@ impl<R: Files + AllocGlobal + Clone + Drop> Model for FileSpool<R> {
 }
 
 impl<R: Files + AllocGlobal + Clone + Drop> FileSpool<R> {
+    ghost use Rattle.base_devices.specs.Causes.{HasCause};
+
     /// The folder at the path. Nothing is opened before the first call.
     pub fn new(rt: R, folder: Text) -> Self
         ensures { result ≡ 0 }
@@ -52,8 +57,23 @@ impl<R: Files + AllocGlobal + Clone + Drop> FileSpool<R> {
             folder,
             entries: None,
             open: None,
+            ahead: Ahead::new(),
             faults: 0,
         }
+    }
+
+    // Reads ahead from an offset of the open file on.
+    fn fill(&mut self, at: u64) -> Result<(), Failed>
+    where
+        R::File: FileExt,
+        ensures { HasCause self.old self.new result }
+    {
+        self.ahead.forget();
+        let into = &mut self.ahead.piece;
+        let answer = read_open(&self.open, at, into);
+        let count = counted(&mut self.faults, answer)?;
+        self.ahead.keep(at, count);
+        Ok(())
     }
 }
 
@@ -91,6 +111,7 @@ fn open<R: Files + AllocGlobal + Clone + Drop>(
     folder: &str,
     name: &Name,
     open: &mut Option<OpenMessage<R>>,
+    ahead: &mut Ahead,
 ) -> io::Result<()> {
     if let Some(message) = open {
         if message.name.as_str() == name.as_str() {
@@ -98,6 +119,7 @@ fn open<R: Files + AllocGlobal + Clone + Drop>(
         }
     }
     *open = None;
+    ahead.forget();
     let text = name.as_str();
     let path = format!(in rt.alloc(); "{folder}/{text}")?;
     let file = File::open(rt, path.as_str())?;
@@ -151,7 +173,13 @@ where
     }
 
     fn time(&mut self, name: &Name) -> Result<u64, Failed> {
-        let answer = open(&self.rt, self.folder.as_str(), name, &mut self.open);
+        let answer = open(
+            &self.rt,
+            self.folder.as_str(),
+            name,
+            &mut self.open,
+            &mut self.ahead,
+        );
         counted(&mut self.faults, answer)?;
         let answer = file_time(&self.open);
         counted(&mut self.faults, answer)
@@ -161,9 +189,17 @@ where
         if into.is_empty() {
             return Ok(0);
         }
-        let answer = open(&self.rt, self.folder.as_str(), name, &mut self.open);
+        let answer = open(
+            &self.rt,
+            self.folder.as_str(),
+            name,
+            &mut self.open,
+            &mut self.ahead,
+        );
         counted(&mut self.faults, answer)?;
-        let answer = read_open(&self.open, at, into);
-        counted(&mut self.faults, answer)
+        if self.ahead.from(at).is_empty() {
+            self.fill(at)?;
+        }
+        Ok(copy_front(self.ahead.from(at), into))
     }
 }

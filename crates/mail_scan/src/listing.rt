@@ -74,16 +74,23 @@ impl Listing {
         }
     }
 
-    // Puts both lists in order. No two names are equal, so that any sort will do.
-    fn sort(&mut self)
-        ensures order { IsInOrder self.new }
-        ensures same { (given : List (List ℕ)) → SortsOut given self.old → SortsOut given self.new }
+    // Puts both lists in order. The uid of each name is read once.
+    fn sort(&mut self) -> Result<(), ScanFault>
+        ensures order { OnOk result (IsInOrder self.new) }
+        ensures same { OnOk result ((given : List (List ℕ)) → SortsOut given self.old →
+            SortsOut given self.new) }
+        ensures refused { IfErr result (λ fault. fault ≡ ScanFault.NoMemory) }
     {
-        self.messages.sort_unstable_by_key(|name| sort_key(name));
-        self.odd.sort_unstable_by(|a, b| compare_keys(
-            a.as_str().as_bytes(),
-            b.as_str().as_bytes(),
-        ));
+        match self.messages.sort_by_cached_key(|name| sort_key(name)) {
+            Ok(()) => {
+                self.odd.sort_unstable_by(|a, b| compare_keys(
+                    a.as_str().as_bytes(),
+                    b.as_str().as_bytes(),
+                ));
+                Ok(())
+            }
+            Err(_) => Err(ScanFault::NoMemory),
+        }
     }
 }
 
@@ -93,7 +100,7 @@ fn sort_key(name: &Name) -> u32
     uid_of_name(name.as_str()).unwrap_or(0)
 }
 
-/// Lists the folder of a spool. It takes 264 bytes for each name.
+/// Lists the folder of a spool. It takes 264 bytes for each name, and while it sorts 280 more for each message.
 pub fn list<S: Spool>(alloc: Global, spool: &mut S) -> Result<Listing, ScanFault>
     requires { GaveNoName (S.state spool.old) }
 
@@ -115,7 +122,7 @@ pub fn list<S: Spool>(alloc: Global, spool: &mut S) -> Result<Listing, ScanFault
 {
     let mut listing = Listing::new(alloc);
     gather(spool, &mut listing)?;
-    listing.sort();
+    listing.sort()?;
     Ok(listing)
 }
 

@@ -45,6 +45,31 @@ fn names_are_sorted_out(rt: HostRuntime) -> Result<(), Fail> {
     Ok(())
 }
 
+// A folder of one name: 254 digits and a dot.
+fn longest_name(alloc: Global) -> Result<MemSpool, Fail>
+    ensures { IfOk result (λ s. GaveNoName (mem_spool_state s)) }
+{
+    let mut name = String::new(alloc);
+    for _ in 0..254 {
+        name.push('1')?;
+    }
+    name.push('.')?;
+    let mut spool = MemSpool::new(alloc).ok().ok_or("no memory")?;
+    if name.len() != 255 || spool.has(name.as_str()) {
+        return Err("no new name".into());
+    }
+    spool.add(name.as_str(), 0, b"x").ok().ok_or("no memory")?;
+    Ok(spool)
+}
+
+#[test]
+fn a_name_of_255_bytes_is_odd(rt: HostRuntime) -> Result<(), Fail> {
+    let mut spool = longest_name(rt.alloc())?;
+    let listing = list(rt.alloc(), &mut spool).ok().ok_or("listed")?;
+    assert_eq!(rt; (listing.messages().len(), listing.odd().len()), (0, 1));
+    Ok(())
+}
+
 // Each of 12 names and their end are asked.
 #[test]
 fn a_failing_call_ends_the_listing(rt: HostRuntime) -> Result<(), Fail> {

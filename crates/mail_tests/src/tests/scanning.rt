@@ -3,6 +3,7 @@ use base_devices::{Failed, Name};
 use mail_scan::{Scanned, scan};
 use mem_spool::MemSpool;
 use std::alloc::{AllocError, Global};
+use std::process::Abort;
 use std::test::Fail;
 
 // The facts of a message: its name, the time 7 and these bytes.
@@ -37,6 +38,7 @@ lines end with LF => 31 1 1704067200 => Date: 1 Jan 2024 00:00:00 GMT\n\nx\ny\0\
 a folded date => 45 0 1704067200 => X: y\nDate:\r\n 1 Jan 2024\n\t00:00:00 GMT\r\nZ: 1\n\n\0\
 other letters => 30 0 1704067200 => dAtE:1 Jan 2024 00:00:00 GMT\n\n\0\
 a date in the last line without LF => 34 0 1704067200 => A: b\nDate: 1 Jan 2024 00:00:00 GMT\0\
+a CR at the file's end stays => 30 0 none => Date: 1 Jan 2024 00:00:00 GMT\r\0\
 a date behind the header => 6 1 none => A: b\n\nDate: 1 Jan 2024 00:00:00 GMT\n\0\
 the first date alone => 43 0 none => Date: never\nDate: 1 Jan 2024 00:00:00 GMT\n\n\0\
 no field of that name => 64 0 none => Dates: 1 Jan 2024 00:00:00 GMT\nX-Date: 1 Jan 2024 00:00:00 GMT\n\n\0\
@@ -102,16 +104,65 @@ fn sizes_about_a_piece(rt: HostRuntime) -> Result<(), Fail> {
     Ok(())
 }
 
-// An empty line whose CR is the last byte of the first piece.
+// The vectors of FIPS 180, and a text that is hashed everywhere. Each row is `TEXT => DIGEST`.
+const VECTORS: &str = "\
+abc => a9993e364706816aba3e25717850c26c9cd0d89d
+abcdbcdecdefdefgefghfghighijhijkijkljklmklmnlmnomnopnopq => 84983e441c3bd26ebaae4aa1f95129e5e54670f1
+abcdefghbcdefghicdefghijdefghijkefghijklfghijklmghijklmnhijklmnoijklmnopjklmnopqklmnopqrlmnopqrsmnopqrstnopqrstu => a49b2446a02c645bf419f995b67091253a04a259
+The quick brown fox jumps over the lazy dog => 2fd4e1c67a2d28fced849ee1bb76e7391b93eb12
+";
+
 #[test]
-fn an_empty_line_cut_by_a_piece(rt: HostRuntime) -> Result<(), Fail> {
-    let mut bytes = vec![in rt.alloc(); b'a'; 4094]?;
-    bytes.extend_from_slice(b"\n\r\nx\ny\n")?;
-    let found = scanned(rt.alloc(), &bytes).ok_or("scanned")?;
-    assert_eq!(rt;
-        (found.size, found.header_size, found.lines),
-        (4101, 4097, 2)
-    );
+fn digests_of_vectors(rt: HostRuntime) -> Result<(), Fail> {
+    for row in VECTORS.lines() {
+        let Some((text, digest)) = row.split_once(" => ") else {
+            return Err("a row without a digest".into());
+        };
+        let found = scanned(rt.alloc(), text.as_bytes()).ok_or("no facts")?;
+        let shown = shown_digest(rt.alloc(), &found.digest)?;
+        assert_eq!(rt; shown.as_str(), digest, "{text}");
+    }
+    Ok(())
+}
+
+// Each row is `NAME => LETTERS => FACTS => TEXT`: behind so many letters `a` stands the text, so that the end of the
+// first piece cuts it where the name says. A byte 0 parts two rows.
+const CUT: &str = "\
+between CR and LF of an empty line => 4094 => 4097 2 none => \n\r\nx\ny\n\0\
+before an empty line of LF => 4095 => 4097 1 none => \n\nx\n\0\
+before an empty line of CR LF => 4095 => 4098 1 none => \n\r\nx\n\0\
+behind the header, LF => 4094 => 4096 1 none => \n\nx\n\0\
+behind the header, CR LF => 4093 => 4096 1 none => \n\r\nx\n\0\
+in the name of the field => 4092 => 4124 1 1704067200 => \nDate: 1 Jan 2024 00:00:00 GMT\n\nx\n\0\
+in its value => 4086 => 4118 1 1704067200 => \nDate: 1 Jan 2024 00:00:00 GMT\n\nx\n\0\
+between CR and LF of its line => 4065 => 4099 1 1704067200 => \nDate: 1 Jan 2024 00:00:00 GMT\r\n\r\nx\n\0\
+behind its line => 4064 => 4098 1 1704067200 => \nDate: 1 Jan 2024 00:00:00 GMT\r\n\r\nx\n";
+
+// The facts of a row of `CUT` from LETTERS on, as wanted and as found.
+fn assert_cut(rt: &(impl Abort + AllocGlobal), name: &str, rest: &str) -> Result<(), Fail> {
+    let Some((letters, rest)) = rest.split_once(" => ") else {
+        return Err("a row without letters".into());
+    };
+    let Some((facts, text)) = rest.split_once(" => ") else {
+        return Err("a row without facts".into());
+    };
+    let letters: u16 = letters.parse().ok().ok_or("no number")?;
+    let mut bytes = vec![in rt.alloc(); b'a'; letters as usize]?;
+    bytes.extend_from_slice(text.as_bytes())?;
+    let found = scanned(rt.alloc(), &bytes).ok_or("no facts")?;
+    let shown = shown_facts(rt.alloc(), &found)?;
+    assert_eq!(rt; shown.as_str(), facts, "{name}");
+    Ok(())
+}
+
+#[test]
+fn lines_cut_by_a_piece(rt: HostRuntime) -> Result<(), Fail> {
+    for row in CUT.split('\0') {
+        let Some((name, rest)) = row.split_once(" => ") else {
+            return Err("a row without a name".into());
+        };
+        assert_cut(&rt, name, rest)?;
+    }
     Ok(())
 }
 
