@@ -1,5 +1,5 @@
 // What a header says of its records together.
-ghost use Rattle.std.specs.Prelude.{◌≡◌, ◌==◌, IsTrue, min, bit_and, if◌then◌else◌, ◌<◌, ◌≤◌, ◌*◌, ◌++◌, [], ◌∷◌, List};
+ghost use Rattle.std.specs.Prelude.{◌≡◌, ◌==◌, IsTrue, min, bit_and, if◌then◌else◌, ◌<◌, ◌≤◌, ◌*◌, ◌+◌, ◌++◌, [], ◌∷◌, List};
 
 use crate::flags::{ANSWERED, DELETED, EXPUNGED, FLAGGED};
 use crate::record::IndexRecord;
@@ -53,8 +53,9 @@ impl Totals {
     /// One record more. There may be 4,294,967,295 at most.
     pub fn add(&mut self, item: &IndexRecord)
         requires { self.old.num_records < 4294967295 }
-        ensures { (rs : List IndexRecord) → AreTotals rs self.old →
+        ensures totals { (rs : List IndexRecord) → AreTotals rs self.old →
             AreTotals (rs ++ item.now ∷ []) self.new }
+        ensures counted { self.new.num_records ≡ self.old.num_records + 1 }
     {
         if item.system_flags & EXPUNGED == 0 {
             self.add_standing(item);
@@ -67,8 +68,9 @@ impl Totals {
     fn add_standing(&mut self, item: &IndexRecord)
         requires room { self.old.num_records < 4294967295 }
         requires stands { IsTrue (stands item.now) }
-        ensures { (rs : List IndexRecord) → AreTotals rs self.old →
+        ensures totals { (rs : List IndexRecord) → AreTotals rs self.old →
             AreTotals (rs ++ item.now ∷ []) self.new }
+        ensures counted { self.new.num_records ≡ self.old.num_records + 1 }
     {
         self.num_records += 1;
         self.last_uid = self.last_uid.max(item.uid);
@@ -83,8 +85,9 @@ impl Totals {
     fn add_expunged(&mut self, item: &IndexRecord)
         requires room { self.old.num_records < 4294967295 }
         requires expunged { IsTrue (has_flag expunged item.now) }
-        ensures { (rs : List IndexRecord) → AreTotals rs self.old →
+        ensures totals { (rs : List IndexRecord) → AreTotals rs self.old →
             AreTotals (rs ++ item.now ∷ []) self.new }
+        ensures counted { self.new.num_records ≡ self.old.num_records + 1 }
     {
         self.first_expunged = self.first_with(item.last_updated);
         self.num_records += 1;

@@ -7,8 +7,8 @@ use Rattle.index_form.specs.Totals.{stands, has_flag, expunged, deleted, answere
 use Rattle.index_form.proofs.TotalsLemmas.{count_push_no, flag_count-expunged, size_used-expunged, first_with-expunged}
 use Rattle.index_form.proofs.totals.Totals.add_expunged.Goals as goal
 
-pub returns : goal.returns
-returns c rs is =
+pub returns-clause-totals : goal.returns-clause-totals
+returns-clause-totals c rs is =
     let old = c.args.self.now in
     let r = c.args.item.now in
     let out : stands r ≡ false = not_from_true (has_flag expunged r) c.requires.expunged in
