@@ -2,3 +2,5 @@ mod Joined
 mod HeaderLemmas
 mod RecordLemmas
 mod IndexLemmas
+mod UsableLemmas
+mod TotalsLemmas

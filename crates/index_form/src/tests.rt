@@ -200,3 +200,89 @@ fn bytes_after_the_records_are_ignored(rt: HostRuntime) -> Result<(), Fail> {
     assert_eq!(rt; view.at(0).to_record(), RECORD);
     Ok(())
 }
+
+/// An index of four records with these uids, each with whether its check word is right.
+fn four_records(rows: [(u32, bool); 4]) -> [u8; 512] {
+    let mut file = [0u8; 512];
+    let header = IndexHeader {
+        num_records: 4,
+        ..HEADER
+    };
+    file[..128].copy_from_slice(&write_header(&header));
+    for (place, (uid, right)) in rows.into_iter().enumerate() {
+        let mut bytes = write_record(&IndexRecord { uid, ..RECORD });
+        if !right {
+            bytes[95] ^= 1;
+        }
+        if place < 4 {
+            file[128 + 96 * place..224 + 96 * place].copy_from_slice(&bytes);
+        }
+    }
+    file
+}
+
+fn next_place(usable: &mut Usable<'_>) -> Option<(u32, u32)> {
+    let (place, item) = usable.next()?;
+    Some((place, item.uid()))
+}
+
+#[test]
+fn usable_records_are_right_and_rise(rt: HostRuntime) -> Result<(), Fail> {
+    let cases: [([(u32, bool); 4], [Option<(u32, u32)>; 3]); 3] = [
+        (
+            [(5, true), (5, true), (7, false), (6, true)],
+            [Some((0, 5)), Some((3, 6)), None],
+        ),
+        (
+            [(0, true), (1, true), (4_294_967_295, true), (2, true)],
+            [Some((1, 1)), Some((2, 4_294_967_295)), None],
+        ),
+        (
+            [(9, false), (8, false), (0, true), (0, false)],
+            [None, None, None],
+        ),
+    ];
+    for (rows, wanted) in cases {
+        let file = four_records(rows);
+        let view = view_index(&file).ok().ok_or("there is no fault")?;
+        let mut usable = view.usable();
+        for place in wanted {
+            assert_eq!(rt; next_place(&mut usable), place);
+        }
+    }
+    Ok(())
+}
+
+#[test]
+fn totals_leave_expunged_records_out(rt: HostRuntime) {
+    // The flags, the size and the time of the last change of each record.
+    let rows: [(u32, u32, u32); 4] = [
+        (ANSWERED + FLAGGED, 3, 7),
+        (EXPUNGED + FLAGGED, 50, 9),
+        (DELETED + UNLINKED, 43, 1),
+        (EXPUNGED + DELETED, 60, 8),
+    ];
+    let mut totals = Totals::new();
+    for (system_flags, size, last_updated) in rows {
+        let item = IndexRecord {
+            system_flags,
+            size,
+            last_updated,
+            ..RECORD
+        };
+        if totals.num_records < 4 {
+            totals.add(&item);
+        }
+    }
+    assert_eq!(rt; (totals.num_records, totals.last_uid), (4, 0x8081_8283));
+    assert_eq!(rt;
+        (
+            totals.exists,
+            totals.deleted,
+            totals.answered,
+            totals.flagged
+        ),
+        (2, 1, 1, 1)
+    );
+    assert_eq!(rt; (totals.quota_mailbox_used, totals.first_expunged), (46, 8));
+}

@@ -1,0 +1,3 @@
+mod MergeLemmas
+mod UidLemmas
+mod ReportLemmas

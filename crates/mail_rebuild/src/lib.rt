@@ -1,0 +1,24 @@
+//! The index of a mailbox, made anew from its message files and from what can be kept of the old index.
+//! Read in this order:
+//!   merge       the message names and the usable records, by rising uid
+//!   old_index   the file of the old index, and what it is read as; fault: why it may not be
+//!   records     the record of one message, fresh or kept
+//!   new_index   the records one after another, their totals, and the header over them
+//!   report      the lines that are printed
+//!   replacing   the new index takes the old one's place
+//!   examples    two folders, by the definitions
+#![tactic(auto)]
+
+mod examples;
+mod fault;
+mod merge;
+mod new_index;
+mod old_index;
+mod records;
+mod replacing;
+mod report;
+
+pub use examples::{damaged_index_is_rebuilt, five_files_are_rebuilt};
+pub use fault::RebuildFault;
+pub use merge::{Merge, Pairing};
+pub use report::Tally;
