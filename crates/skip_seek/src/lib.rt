@@ -1,0 +1,15 @@
+//! Search in a twoskip file that climbs down the levels, and reads by it.
+//!
+//! - `climb.rt`: on the upper levels, from level 30 down, the last record before the place of a key.
+//! - `lowest.rt`: from there along level zero to the place.
+//! - `search.rt`: what a search finds.
+//! - `reads.rt`: the value at a key, and the pairs from a key and past it.
+#![tactic(auto)]
+
+mod climb;
+mod lowest;
+mod reads;
+mod search;
+
+pub use reads::{after, at_least, fetch};
+pub use search::{Found, seek};
