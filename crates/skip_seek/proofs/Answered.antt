@@ -43,6 +43,39 @@ module _ (b starts : List ℕ) (es : List Entry) (live : Live b starts es) where
       let value : value_in b at ≡ e.value = ap (value_in b) is ∙ there.value in
       λ i. Some (sym key i, sym value i)
 
+  -- ---- from a record to the next one
+
+  pub record Onward (at : ℕ) (back : List Entry) : Type 0 where
+    pub passed : List Entry
+    pub parts : es ≡ passed ++ back
+    pub step : CanStep b (length b) at
+    pub next : successor_under b (length b) at ≡ first_at back
+
+  onward : (front : List Entry) (e : Entry) (back : List Entry) → es ≡ front ++ e ∷ back → (at : ℕ) → at ≡ e.at → Onward at back
+  onward front e back split at is =
+      let more : es ≡ (front ++ e ∷ []) ++ back = split ∙ sym (append_assoc front (e ∷ []) back) in
+      let last : last_at 64 (front ++ e ∷ []) ≡ at = last_more 64 front e ∙ sym is in
+      record {
+        passed = front ++ e ∷ [];
+        parts = more;
+        step = subst (λ (v : ℕ). CanStep b (length b) v) last (can_step b starts es live (front ++ e ∷ []) back more);
+        next = ap (successor_under b (length b)) (sym last) ∙ next_is b starts es (length b) live.listed.log (front ++ e ∷ []) back more;
+      }
+
+  -- the first of the records that are left, and the way on from it
+  pub record Leading (at : ℕ) (records : List Entry) : Type 0 where
+    pub back : List Entry
+    pub pairs_are : pairs records ≡ (key_in b at, value_in b at) ∷ pairs back
+    pub on : Onward at back
+
+  pub leading : (front records : List Entry) (at : ℕ) → es ≡ front ++ records → at ≡ first_at records → at ≢ 0 → Leading at records
+  leading front [] at split is some = absurd (some is)
+  leading front (e ∷ back) at split is some =
+      let there = entry_there front e back split in
+      let key : key_in b at ≡ e.key = ap (key_in b) is ∙ there.key in
+      let value : value_in b at ≡ e.value = ap (value_in b) is ∙ there.value in
+      record { back = back; pairs_are = λ i. (sym key i, sym value i) ∷ pairs back; on = onward front e back split at is }
+
   -- ---- at the place of a key
 
   module _ (key : List ℕ) (place : Place es key) (here : ℕ) (is : here ≡ first_at (place.dropped ++ place.rest)) where
@@ -79,26 +112,11 @@ module _ (b starts : List ℕ) (es : List Entry) (live : Live b starts es) where
           ap first_value one.1 ∙ (λ i. Some (sym value i))
     ]
 
-    -- the record of the key, and from it to the next one
-    pub record Past : Type 0 where
-      pub passed : List Entry
-      pub parts : es ≡ passed ++ place.rest
-      pub step : CanStep b (length b) here
-      pub next : successor_under b (length b) here ≡ first_at place.rest
-
-    pub past_found : place.dropped ≢ [] → Past
+    -- from the record of the key to the next one
+    pub past_found : place.dropped ≢ [] → Onward here place.rest
     past_found some = elim place.same_key [
       | inl none ↦ absurd (some none)
-      | inr one ↦
-          let e : Entry = one.0 in
-          let split : es ≡ (place.front ++ e ∷ []) ++ place.rest = one_split e one.1 ∙ sym (append_assoc place.front (e ∷ []) place.rest) in
-          let last : last_at 64 (place.front ++ e ∷ []) ≡ here = last_more 64 place.front e ∙ sym (one_here e one.1) in
-          record {
-            passed = place.front ++ e ∷ [];
-            parts = split;
-            step = subst (λ (v : ℕ). CanStep b (length b) v) last (can_step b starts es live (place.front ++ e ∷ []) place.rest split);
-            next = ap (successor_under b (length b)) (sym last) ∙ next_is b starts es (length b) live.listed.log (place.front ++ e ∷ []) place.rest split;
-          }
+      | inr one ↦ onward place.front one.0 place.rest (one_split one.0 one.1) here (one_here one.0 one.1)
     ]
 
 -- where the key was not found, no record has it

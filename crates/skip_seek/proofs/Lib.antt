@@ -1,4 +1,5 @@
 mod Answered
+mod FromPlaces
 mod Hops
 mod Left
 mod LevelZero

@@ -4,12 +4,15 @@
 //! - `lowest.rt`: from there along level zero to the place.
 //! - `search.rt`: what a search finds.
 //! - `reads.rt`: the value at a key, and the pairs from a key and past it.
+//! - `walk.rt`: the pairs in order, from one to the next.
 #![tactic(auto)]
 
 mod climb;
 mod lowest;
 mod reads;
 mod search;
+mod walk;
 
 pub use reads::{after, at_least, fetch};
 pub use search::{Found, seek};
+pub use walk::{Passed, step, walk_from};
