@@ -4,6 +4,7 @@ mod Hops
 mod Left
 mod LevelZero
 mod Measure
+mod Prefixes
 mod Reading
 mod Top
 mod Walking

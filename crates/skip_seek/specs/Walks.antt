@@ -4,7 +4,7 @@ use Rattle.base_bytes.specs.OrderedMap.{Map}
 use Rattle.skip_spec.specs.Chain.{Entry, pairs}
 use Rattle.skip_spec.specs.Change.{first_at}
 use Rattle.skip_seek.specs.Searches.{live_of}
-use Rattle.skip_seek.specs.declared.walk.Passed.{Passed}
+use Rattle.skip_seek.specs.declared.cursor.Passed.{Passed}
 
 -- the last of the live records are these, and the first of them stands at the offset, or none is left and it is 0
 pub record IsFrom (bytes : List ℕ) (at : ℕ) (es : List Entry) : Type 0 where

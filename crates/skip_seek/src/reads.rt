@@ -36,8 +36,8 @@ pub fn at_least<'a, L: Ledger>(
     ensures pair { pair_of result ≡ first_from (map_of image.now.bytes) key.now }
     ensures cost { StaysInBound image.now.bytes key.now 0 steps.old steps.new }
 {
-    let found = seek(image, key, steps);
-    pair_at(image, found.here)
+    let here = seek(image, key, steps).here;
+    pair_at(image, here)
 }
 
 /// The first pair whose key is above this one, lent by the image. It takes no memory.

@@ -1,11 +1,11 @@
-use Rattle.std.proofs.Common.{◌≡◌, ℕ, List, ◌∷◌, length, refl, sym, ap, subst, ◌∙◌, arith}
+use Rattle.std.proofs.Common.{ℕ, ◌∷◌, refl, sym, ap, subst, ◌∙◌, arith}
 use Rattle.skip_spec.specs.Chain.{pairs}
 use Rattle.skip_spec.specs.Successor.{successor_under}
 use Rattle.skip_image.specs.Image.{CanStep}
 use Rattle.skip_seek.specs.Searches.{live_of}
 use Rattle.skip_seek.proofs.Answered.{record_there, none_at_end, leading}
 use Rattle.skip_seek.proofs.Reading.{live_there, two_looks}
-use Rattle.skip_seek.proofs.walk.step.Goals as goal
+use Rattle.skip_seek.proofs.cursor.step.Goals as goal
 
 pub returns-then-place-eq0-clause-step : goal.returns-then-place-eq0-clause-step
 returns-then-place-eq0-clause-step g c = λ left at.

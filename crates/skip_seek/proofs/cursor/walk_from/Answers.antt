@@ -2,7 +2,7 @@ use Rattle.std.proofs.Common.{◌++◌, sym}
 use Rattle.skip_seek.specs.Searches.{live_of}
 use Rattle.skip_seek.proofs.FromPlaces.{from_place}
 use Rattle.skip_seek.proofs.Reading.{live_there}
-use Rattle.skip_seek.proofs.walk.walk_from.Goals as goal
+use Rattle.skip_seek.proofs.cursor.walk_from.Goals as goal
 
 pub returns-clause-place : goal.returns-clause-place
 returns-clause-place g c =
