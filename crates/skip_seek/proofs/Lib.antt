@@ -7,4 +7,5 @@ mod Measure
 mod Prefixes
 mod Reading
 mod Top
+mod TwoLevels
 mod Walking

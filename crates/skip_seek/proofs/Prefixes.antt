@@ -1,5 +1,5 @@
 -- Keys with a prefix stand side by side.
-use Rattle.std.proofs.Common.{◌≡◌, ℕ, ◌<◌, Bool, true, false, cond, List, [], ◌∷◌, ◌++◌, refl, sym, ◌∙◌, ap, subst, arith}
+use Rattle.std.proofs.Common.{◌≡◌, ℕ, ◌<◌, Bool, true, false, cond, List, [], ◌∷◌, ◌++◌, refl, sym, ◌∙◌, ap, subst, arith, Option, None, Some}
 use Rattle.std.specs.Prelude.{filter, not, nat_eq, nat_lt, ◌==◌, ◌&&◌}
 use Rattle.std.specs.declared.cmp.Ordering.{Ordering}
 use Rattle.std.specs.declared.cmp.Ordering.TheVariants.{Less, Equal, Greater}
@@ -8,7 +8,9 @@ use Rattle.std.specs.List.{starts_with}
 use Rattle.base_bytes.specs.OrderedMap.{Map, IsBelow, IsOrderedMap, key_order, with_prefix, pairs_from}
 use Rattle.base_bytes.proofs.OrderedMaps.{below_then}
 use Rattle.skip_spec.specs.Chain.{Entry, pairs}
-use Rattle.skip_seek.specs.Prefixed.{BeginsFrom}
+use Rattle.base_bytes.specs.declared.pair.Pair.{Pair}
+use Rattle.skip_seek.specs.Prefixed.{BeginsFrom, Remains, Gives}
+use Rattle.skip_seek.specs.declared.prefixed.Walk.{Walk}
 
 -- whether a key begins with a prefix, byte by byte
 begins : List ℕ → List ℕ → Bool
@@ -154,3 +156,8 @@ from_begins prefix (p ∷ m) = by (from_begins prefix m) (key_order p.0 prefix) 
 pub back_rises : (front back : List Entry) → IsOrderedMap (pairs (front ++ back)) → IsOrderedMap (pairs back)
 back_rises [] back rise = rise
 back_rises (e ∷ front) back rise = back_rises front back rise.1
+
+-- a walk goes on after each call
+pub goes_on : (left : Map) (p : Option Pair) (walk : Walk) → Gives left p walk → (rest : Map) × Remains walk rest
+goes_on left None walk g = ([], g.1)
+goes_on left (Some pair) walk g = (g.0, g.2)

@@ -19,3 +19,6 @@ pub use cursor::{Passed, step, walk_from};
 pub use prefixed::Walk;
 pub use reads::{after, at_least, fetch};
 pub use search::{Found, seek};
+
+#[cfg(test)]
+mod tests;
