@@ -1,0 +1,11 @@
+mod Answered
+mod FromPlaces
+mod Hops
+mod Left
+mod LevelZero
+mod Measure
+mod Prefixes
+mod Reading
+mod Top
+mod TwoLevels
+mod Walking

@@ -1,0 +1,4 @@
+pub mod Climbing
+pub mod Prefixed
+pub mod Searches
+pub mod Walks
