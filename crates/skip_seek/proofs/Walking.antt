@@ -38,9 +38,6 @@ equal_is Equal e = refl
 equal_is Less e = absurd cc
 equal_is Greater e = absurd cc
 
-not_less : (o : Ordering) → o ≡ Less → is_lt o ≡ false → ⊥
-not_less o e f = let g = is_less o e in cc
-
 -- ---- the place of a key
 
 above_not : (e key : List ℕ) → IsBelow key e → comes_before e key ≡ false
