@@ -1,0 +1,31 @@
+-- A header is written.
+use Rattle.std.specs.Prelude.{◌≡◌, ◌⊎◌, ℕ, ◌≤◌, List, length, Some, false}
+use Rattle.base_bytes.specs.Landing.{written_at}
+use Rattle.base_devices.specs.CrashImages.{Image, DiskState, LeavesOnly}
+use Rattle.skip_spec.specs.Chain.{Entry}
+use Rattle.skip_spec.specs.Opens.{Contents}
+use Rattle.skip_spec.specs.Live.{Live, live_under}
+use Rattle.skip_lists.specs.Tie.{TiedBy}
+
+-- each file that a crash leaves is long enough for a header
+abbrev pub HaveHeaders : DiskState → Type 0
+HaveHeaders disk = (file : List ℕ) → disk.leaves (Some file) → 64 ≤ length file
+
+-- the image could be left, or is a file that could be left with this header
+abbrev pub MayHaveHeader : DiskState → List ℕ → Image → Type 0
+MayHaveHeader disk header image =
+    disk.leaves image ⊎ ((file : List ℕ) × disk.leaves (Some file) × (image ≡ Some (written_at 0 header file)))
+
+-- at each moment only what could be left was left, with the old header or this one
+abbrev pub LeavesHeader : List ℕ → DiskState → DiskState → Type 0
+LeavesHeader header old new = LeavesOnly old new (λ image mark. (mark ≡ old.mark) × MayHaveHeader old header image)
+
+-- the records of the bytes are live
+abbrev pub IsLive : List ℕ → Type 0
+IsLive bytes = (starts : List ℕ) × (es : List Entry) × Live bytes starts es
+
+-- The new bytes are a file that says what the old bytes list, and the disk is tied to it.
+pub record IsCommittedAs (old new : List ℕ) (disk : DiskState) : Type 0 where
+  pub says : Contents
+  pub list : says.chain ≡ live_under old (length old)
+  pub tied : TiedBy new says new false disk
