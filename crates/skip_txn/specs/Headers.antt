@@ -1,9 +1,11 @@
 -- A header is written.
-use Rattle.std.specs.Prelude.{◌≡◌, ◌⊎◌, ℕ, ◌≤◌, List, length, Some, false}
+use Rattle.std.specs.Prelude.{◌≡◌, ◌⊎◌, ℕ, ◌<◌, ◌≤◌, List, length, take, slice_index, Some, false}
 use Rattle.base_bytes.specs.Landing.{written_at}
 use Rattle.base_devices.specs.CrashImages.{Image, DiskState, LeavesOnly}
+use Rattle.skip_form.specs.declared.header.Header.{Header}
+use Rattle.skip_form.specs.Spelling.{IsHeader, header_bytes}
 use Rattle.skip_spec.specs.Chain.{Entry}
-use Rattle.skip_spec.specs.Opens.{Contents}
+use Rattle.skip_spec.specs.Opens.{Contents, with_dirty}
 use Rattle.skip_spec.specs.Live.{Live, live_under}
 use Rattle.skip_lists.specs.Tie.{TiedBy}
 
@@ -29,3 +31,13 @@ pub record IsCommittedAs (old new : List ℕ) (disk : DiskState) : Type 0 where
   pub says : Contents
   pub list : says.chain ≡ live_under old (length old)
   pub tied : TiedBy new says new false disk
+
+-- the header has DIRTY now, and nothing else changed
+pub record GetsDirty (old new : List ℕ) : Type 0 where
+  pub long : length new ≡ length old
+  pub header : (h : Header) → IsHeader h → take 64 old ≡ header_bytes h → take 64 new ≡ header_bytes (with_dirty h)
+  pub others : (i : ℕ) → 64 ≤ i → i < length old → slice_index new i ≡ slice_index old i
+
+-- the committed end of the base
+abbrev pub EndsAt : Contents → ℕ → Type 0
+EndsAt says committed = says.header.current_size ≡ committed

@@ -18,7 +18,7 @@ use skip_image::Image;
 
 /// Puts a pair of a level from 1 to 31, in place of the one of the same key if there is one. The bytes
 /// have DIRTY, and room for the record.
-pub fn store<D: Disk>(
+pub(crate) fn store<D: Disk>(
     disk: &mut D,
     image: &mut Image,
     committed: u64,
@@ -83,7 +83,7 @@ pub fn store<D: Disk>(
 }
 
 /// Deletes the pair of a key that is there. The bytes have DIRTY, and room for the record.
-pub fn delete<D: Disk>(
+pub(crate) fn delete<D: Disk>(
     disk: &mut D,
     image: &mut Image,
     committed: u64,

@@ -49,7 +49,7 @@ pub(crate) fn put_header<D: Disk>(
 }
 
 /// The first change of a transaction: the header gets DIRTY, and that is on the disk before anything else is written.
-pub fn begin_changes<D: Disk>(disk: &mut D, image: &mut Image) -> Result<(), Failed>
+pub(crate) fn begin_changes<D: Disk>(disk: &mut D, image: &mut Image) -> Result<(), Failed>
     requires header { HasHeader image.old.bytes }
     requires there { 64 ≤ length image.old.bytes }
     requires reads { Shows (D.state disk.old) → Reads (D.state disk.old) image.old.bytes }

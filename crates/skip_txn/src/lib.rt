@@ -5,6 +5,7 @@
 //! - `levels.rt`: pointers are set, level by level.
 //! - `change.rt`: a pair is stored, or deleted.
 //! - `header.rt`: the header is written, with DIRTY before the first change.
+//! - `transaction.rt`: a change within a transaction, the first one or a further one.
 //! - `ending.rt`: what has changed is committed.
 #![tactic(auto)]
 
@@ -14,8 +15,8 @@ mod ending;
 mod header;
 mod levels;
 mod spot;
+mod transaction;
 
-pub use change::{delete, store};
 pub use ending::commit;
-pub use header::begin_changes;
 pub use spot::Spot;
+pub use transaction::{put_pair, take_out};
