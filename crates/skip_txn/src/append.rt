@@ -37,7 +37,8 @@ fn append_parts(image: &mut Image, head: &[u8], key: &[u8], value: &[u8])
     requires room { length head.now + padded (length key.now + length value.now) ≤ image.old.spare }
     requires limit { length image.old.bytes + length head.now
         + padded (length key.now + length value.now) ≤ image_limit }
-    ensures bytes { image.new.bytes ≡ image.old.bytes ++ (head.now ++ body_bytes key.now value.now) }
+    ensures bytes { image.new.bytes
+        ≡ image.old.bytes ++ (head.now ++ body_bytes key.now value.now) }
     ensures fits { AreBytes (head.now ++ body_bytes key.now value.now) }
     ensures spare { image.old.spare ≤ image.new.spare + length head.now
         + padded (length key.now + length value.now) }

@@ -16,8 +16,8 @@ use base_devices::{Disk, Failed};
 use skip_form::Kind;
 use skip_image::Image;
 
-/// Puts a pair of a level from 1 to 31, in place of the one of the same key if there is one. The bytes
-/// have DIRTY, and room for the record.
+/// Puts a pair of a level from 1 to 31, in place of the one of the same key if there is one. The
+/// bytes have DIRTY, and room for the record.
 pub(crate) fn store<D: Disk>(
     disk: &mut D,
     image: &mut Image,

@@ -18,8 +18,8 @@ use base_devices::{Disk, Failed};
 use skip_form::{Header, Kind};
 use skip_image::Image;
 
-/// Appends the commit record of a transaction whose records begin at an offset, and waits until the file is on
-/// the disk.
+/// Appends the commit record of a transaction whose records begin at an offset, and waits until the
+/// file is on the disk.
 fn end_log<D: Disk>(disk: &mut D, image: &mut Image, start: u64) -> Result<(), Failed>
     requires room { 24 ≤ image.old.spare }
     requires limit { length image.old.bytes + 24 ≤ image_limit }
@@ -52,8 +52,8 @@ fn end_log<D: Disk>(disk: &mut D, image: &mut Image, start: u64) -> Result<(), F
     Ok(())
 }
 
-/// Commits what has changed, where the live records are so many: a commit record, and once that is on the disk
-/// the header, without DIRTY.
+/// Commits what has changed, where the live records are so many: a commit record, and once that is
+/// on the disk the header, without DIRTY. After an error image and disk are of no further use.
 pub fn commit<D: Disk>(disk: &mut D, image: &mut Image, count: u64) -> Result<(), Failed>
     requires room { 24 ≤ image.old.spare }
     requires limit { length image.old.bytes + 24 ≤ image_limit }

@@ -48,7 +48,8 @@ pub(crate) fn put_header<D: Disk>(
     Ok(())
 }
 
-/// The first change of a transaction: the header gets DIRTY, and that is on the disk before anything else is written.
+/// The first change of a transaction: the header gets DIRTY, and that is on the disk before
+/// anything else is written.
 pub(crate) fn begin_changes<D: Disk>(disk: &mut D, image: &mut Image) -> Result<(), Failed>
     requires header { HasHeader image.old.bytes }
     requires there { 64 ≤ length image.old.bytes }

@@ -52,8 +52,9 @@ fn make_dirty<D: Disk>(disk: &mut D, image: &mut Image, changed: bool) -> Result
     Ok(())
 }
 
-/// Puts a pair of a level from 1 to 31 within a transaction that began at a committed end. Where it is the first change,
-/// DIRTY is set before.
+/// Puts a pair within a transaction that began at a committed end, in a record of a level from 1 to
+/// 31. The key has 1 to 65,534 bytes and the value at most 4,294,967,294. Where it is the first
+/// change, DIRTY is set before. After an error image and disk are of no further use.
 pub fn put_pair<D: Disk>(
     disk: &mut D,
     image: &mut Image,
@@ -104,8 +105,9 @@ pub fn put_pair<D: Disk>(
     Ok(())
 }
 
-/// Deletes the pair of a key that is there, within a transaction that began at a committed end. Where it is the first
-/// change, DIRTY is set before.
+/// Deletes the pair of a key that is there, within a transaction that began at a committed end.
+/// Where it is the first change, DIRTY is set before. After an error image and disk are of no
+/// further use.
 pub fn take_out<D: Disk>(
     disk: &mut D,
     image: &mut Image,
