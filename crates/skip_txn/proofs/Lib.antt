@@ -1,0 +1,9 @@
+pub mod Changed
+pub mod Dirtied
+pub mod Ended
+pub mod Headers
+pub mod Keeping
+pub mod OnePlace
+pub mod PutRecords
+pub mod Relinks
+pub mod Spotted
