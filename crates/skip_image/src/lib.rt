@@ -14,6 +14,8 @@ mod live;
 mod marks;
 mod pointers;
 mod records;
+#[cfg(test)]
+mod tests;
 mod verify;
 mod way;
 mod words;
