@@ -1,21 +1,20 @@
 -- Along the list of a file, record by record.
-use Rattle.std.proofs.Common.{◌≡◌, ◌≢◌, ℕ, zero, suc, ◌+◌, ◌-◌, ◌≤◌, ◌<◌, Bool, true, false, cond, ltb, eqb, List, [], ◌∷◌, length, slice_index, Option, Some, None, refl, sym, ap, subst, ◌∙◌, inl, inr, arith}
+use Rattle.std.proofs.Common.{◌≡◌, ◌≢◌, ℕ, suc, ◌+◌, ◌≤◌, ◌<◌, Bool, true, false, cond, eqb, List, [], ◌∷◌, length, slice_index, Option, Some, None, refl, sym, ap, subst, ◌∙◌, inl, inr, arith}
 use Rattle.std.proofs.lemmas.Bool.{cases_lt, eq-eqb, ne_eqb, lt-ltb, le-ltb}
 use Rattle.base_bytes.specs.declared.flaw.Damage.{Damage}
 use Rattle.base_bytes.specs.Fields.{part, AreBytes}
 use Rattle.skip_form.specs.declared.head.Kind as kinds
 use Rattle.skip_form.specs.Flaws.{head_in}
-use Rattle.skip_spec.specs.Records.{key_in, head_size_of, HasKind}
-use Rattle.skip_spec.specs.Rows.{IsAmong}
+use Rattle.skip_spec.specs.Records.{key_in, head_size_of}
 use Rattle.skip_spec.specs.Chain.{Entry, entry_at}
-use Rattle.skip_spec.specs.FirstFlaw.{first_some, end_of, way_flaw, live_flaw, end_flaw, next_flaw, successor, latest, latest_key, latest_on, RightRows, RightLive, InChain}
+use Rattle.skip_spec.specs.FirstFlaw.{end_of, way_flaw, live_flaw, end_flaw, next_flaw, successor, latest, latest_key, latest_on, RightRows, RightLive, InChain}
 use Rattle.skip_spec.proofs.AnAnswer.{rank, next_falls}
 use Rattle.skip_spec.proofs.Flawless.{FrontIsRight, row_stands, rows_stand, successor_is, put_of}
 use Rattle.skip_form.specs.Spelling.{IsLevelOf}
 use Rattle.skip_spec.proofs.KindLemmas.{dummy_level, dummy_lengths}
 use Rattle.skip_lists.specs.Heads.{HasSlots}
 use Rattle.skip_image.specs.Image.{HasRecord}
-use Rattle.skip_image.specs.Verifying.{IsMarked, AreLatest, HaveUppers, Raises, HasList}
+use Rattle.skip_image.specs.Verifying.{AreLatest, HaveUppers, Raises, HasList}
 use Rattle.skip_image.proofs.Exits.{step_over, stop_at, last_check}
 use Rattle.skip_image.proofs.RowWalk.{row_among, rows_few}
 

@@ -1,5 +1,5 @@
 -- Right rows, one after the other.
-use Rattle.std.proofs.Common.{◌≡◌, ℕ, ◌+◌, ◌*◌, ◌/◌, ◌%◌, ◌≤◌, ◌<◌, List, [], ◌∷◌, ◌++◌, length, None, refl, sym, subst, ◌∙◌, inl, inr, arith}
+use Rattle.std.proofs.Common.{◌≡◌, ℕ, ◌+◌, ◌%◌, ◌≤◌, ◌<◌, List, [], ◌∷◌, ◌++◌, length, None, refl, sym, subst, ◌∙◌, inl, inr, arith}
 use Rattle.skip_form.specs.Flaws.{head_in}
 use Rattle.skip_spec.specs.Rows.{IsAmong}
 use Rattle.skip_spec.specs.FirstFlaw.{end_of, row_flaw, RightRows}

@@ -1,18 +1,15 @@
 -- Where records start, and of which type they are.
-use Rattle.std.proofs.Common.{◌≡◌, ◌≢◌, ℕ, ◌+◌, ◌%◌, ◌≤◌, ◌<◌, Bool, true, false, eqb, List, [], ◌∷◌, get_or, slice_index, IsTrue, Option, Some, None, refl, sym, ap, subst, ◌∙◌, inl, inr, arith}
-use Rattle.std.specs.Prelude.{◌↔◌, ◌||◌, not}
-use Rattle.std.proofs.lemmas.Bool.{eq-eqb, ne_eqb, eqb-true}
+use Rattle.std.proofs.Common.{◌≡◌, ◌≢◌, ℕ, ◌%◌, ◌≤◌, Bool, true, false, eqb, List, [], ◌∷◌, get_or, slice_index, IsTrue, Option, None, refl, sym, ap, ◌∙◌, inl, inr, arith}
+use Rattle.std.specs.Prelude.{◌↔◌, ◌||◌}
+use Rattle.std.proofs.lemmas.Bool.{eq-eqb}
 use Rattle.base_bytes.specs.declared.flaw.Flaw.TheVariants.{Place, Kind}
 use Rattle.base_bytes.specs.declared.flaw.Damage.{Damage}
 use Rattle.base_bytes.specs.Fields.{AreBytes}
-use Rattle.skip_form.specs.declared.head.Kind.TheVariants.{Put}
-use Rattle.skip_form.specs.Fields.{pointer_in}
 use Rattle.skip_form.specs.Flaws.{head_in}
 use Rattle.skip_form.specs.Spelling.{type_byte}
 use Rattle.skip_spec.specs.Rows.{IsAmong}
-use Rattle.skip_spec.specs.Successor.{is_of}
-use Rattle.skip_spec.specs.FirstFlaw.{unless, first_some, end_of, is_among, is_head_right, is_tail_right, delete_flaw, RightRows}
-use Rattle.skip_spec.proofs.AnAnswer.{among, holds}
+use Rattle.skip_spec.specs.FirstFlaw.{unless, first_some, end_of, is_among}
+use Rattle.skip_spec.proofs.AnAnswer.{among}
 use Rattle.skip_spec.proofs.Flawless.{row_stands}
 use Rattle.skip_spec.proofs.Parts.{get_or-part}
 use Rattle.skip_image.specs.Image.{HasRecord}

@@ -1,9 +1,8 @@
 -- From one live record to the next, by the byte of a type.
-use Rattle.std.proofs.Common.{◌≡◌, ◌≢◌, ℕ, Bool, true, false, cond, eqb, List, slice_index, refl, sym, ap, subst, ◌∙◌, inl, inr, arith, Result, Ok, Err}
-use Rattle.std.proofs.lemmas.Bool.{cases_eq, eq-eqb, ne_eqb}
+use Rattle.std.proofs.Common.{◌≡◌, ◌≢◌, ℕ, Bool, true, false, cond, eqb, List, slice_index, sym, ap, ◌∙◌, arith, Result, Ok, Err}
+use Rattle.std.proofs.lemmas.Bool.{eq-eqb, ne_eqb}
 use Rattle.base_bytes.specs.declared.flaw.Flaw.{Flaw}
 use Rattle.skip_form.specs.declared.head.Head.{Head}
-use Rattle.skip_form.specs.declared.head.Kind as kinds
 use Rattle.skip_form.specs.declared.head.Kind.TheVariants.{Dummy, Put, Gone, Commit}
 use Rattle.skip_form.specs.Fields.{pointer_in}
 use Rattle.skip_form.specs.Flaws.{kind_of}

@@ -1,5 +1,5 @@
 -- A file in memory, as who holds its image sees it.
-use Rattle.std.specs.Prelude.{◌≡◌, ◌⊎◌, ℕ, ◌+◌, ◌-◌, ◌^◌, ◌≤◌, ◌==◌, ◌&&◌, not, if◌then◌else◌, List, ◌++◌, length, take, Option}
+use Rattle.std.specs.Prelude.{◌≡◌, ◌⊎◌, ℕ, ◌+◌, ◌-◌, ◌==◌, ◌&&◌, not, if◌then◌else◌, List, ◌++◌, take, Option}
 use Rattle.std.specs.Option.{option_map}
 use Rattle.base_devices.specs.CrashImages.{Fresh}
 use Rattle.base_devices.specs.DiskCalls.{fresh_bytes}

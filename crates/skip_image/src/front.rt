@@ -83,8 +83,8 @@ pub(crate) fn check_rows(file: &[u8], log: Log, marks: &mut [u8]) -> Result<(), 
     requires log { IsLogOf file.now log }
     requires room { end_of file.now ≤ 64 * length marks.old }
     requires clear { Marks marks.old [] }
-    ensures wrong { IfErr result (λ damage. (starts : List ℕ) × (at : ℕ) × RightRows file.now 336 starts at
-        × (at < end_of file.now) × (row_flaw file.now at ≡ Some damage)) }
+    ensures wrong { IfErr result (λ damage. (starts : List ℕ) × (at : ℕ)
+        × RightRows file.now 336 starts at × (at < end_of file.now) × (row_flaw file.now at ≡ Some damage)) }
     ensures right { OnOk result ((starts : List ℕ) × IsMarked file.now marks.new starts) }
     ensures size { length marks.new ≡ length marks.old }
 {

@@ -22,10 +22,13 @@ impl Model for Image {
     ghost Value = { ImageView };
 
     ghost view = { λ i. record {
-        bytes = i.bytes.items;
-        spare = min (vec_capacity i.bytes - vec_len i.bytes) (64 * vec_capacity i.marks - vec_len i.bytes) } };
+      bytes = i.bytes.items;
+      spare = min (vec_capacity i.bytes - vec_len i.bytes)
+        (64 * vec_capacity i.marks - vec_len i.bytes);
+    } };
 
-    ghost invariant = { λ i. (vec_len i.bytes ≤ 64 * vec_len i.marks) × (vec_len i.bytes ≤ image_limit) };
+    ghost invariant = { λ i. (vec_len i.bytes ≤ 64 * vec_len i.marks)
+        × (vec_len i.bytes ≤ image_limit) };
 }
 
 impl Image {
@@ -45,8 +48,8 @@ impl Image {
         requires there { Shows (D.state disk.old) → HasLength (D.state disk.old).reads size }
         ensures bytes { IfOk result (λ i. (b : List ℕ) → Reads (D.state disk.old) b → i.bytes ≡ b) }
         ensures size { IfOk result (λ i. length i.bytes ≡ size) }
-        ensures cause { FaultHasCause IsReadFault (D.state disk.old).faults (D.state disk.new).faults
-            result }
+        ensures cause { FaultHasCause IsReadFault (D.state disk.old).faults
+            (D.state disk.new).faults result }
         ensures fresh { (D.state disk.new).fresh ≡ (D.state disk.old).fresh }
         ensures stays { StaysAs (D.state disk.old) (D.state disk.new) }
         ensures rest { D.disk_rest disk.old disk.new }
@@ -72,7 +75,8 @@ impl Image {
     /// Adds the bytes to the new file, in order and in pieces of at most 65,536. It takes no memory.
     pub fn write_new<D: Disk>(&self, disk: &mut D) -> Result<(), Failed>
         requires begun { Shows (D.state disk.old) → IsSome (D.state disk.old).fresh }
-        ensures added { OnOk result (Adds self.now.bytes (D.state disk.old).fresh (D.state disk.new).fresh) }
+        ensures added { OnOk result (Adds self.now.bytes (D.state disk.old).fresh
+            (D.state disk.new).fresh) }
         ensures stays { StaysAs (D.state disk.old) (D.state disk.new) }
         ensures cause { HasCause (D.state disk.old).faults (D.state disk.new).faults result }
         ensures rest { D.disk_rest disk.old disk.new }
@@ -122,10 +126,12 @@ impl Image {
 
     /// Appends a head, a key and a value, with zeros up to a multiple of eight bytes. The room for them was reserved.
     pub fn append_reserved(&mut self, head: &[u8], key: &[u8], value: &[u8])
-        requires room { length head.now + padded (length key.now + length value.now) ≤ self.old.spare }
+        requires room { length head.now + padded (length key.now + length value.now)
+            ≤ self.old.spare }
         requires limit { length self.old.bytes + length head.now
             + padded (length key.now + length value.now) ≤ image_limit }
-        ensures bytes { self.new.bytes ≡ self.old.bytes ++ (head.now ++ body_bytes key.now value.now) }
+        ensures bytes { self.new.bytes
+            ≡ self.old.bytes ++ (head.now ++ body_bytes key.now value.now) }
         ensures spare { self.old.spare ≤ self.new.spare + length head.now
             + padded (length key.now + length value.now) }
     {

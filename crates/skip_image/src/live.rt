@@ -25,15 +25,21 @@ pub(crate) fn check_dummy(file: &[u8], log: Log) -> Result<(), Damage>
 }
 
 /// The live record at an offset, after the one at `before`.
-pub(crate) fn check_live(file: &[u8], log: Log, last: &[u64; 31], before: u64, at: u64) -> Result<(), Damage>
+pub(crate) fn check_live(
+    file: &[u8],
+    log: Log,
+    last: &[u64; 31],
+    before: u64,
+    at: u64,
+) -> Result<(), Damage>
     requires log { IsLogOf file.now log }
     requires before { HasRecord file.now before }
     requires there { HasRecord file.now at }
     requires low { 1 ≤ (head_in file.now at).level }
     requires high { (head_in file.now at).level ≤ 31 }
     requires uppers { HaveUppers file.now last.now }
-    ensures { (passed : List Entry) → AreLatest last.now passed → latest_key passed ≡ key_in file.now before
-        → Finds (live_flaw file.now passed at) result }
+    ensures { (passed : List Entry) → AreLatest last.now passed
+        → latest_key passed ≡ key_in file.now before → Finds (live_flaw file.now passed at) result }
 {
     check_head(file, log, at)?;
     check_tail(file, at)?;

@@ -15,7 +15,8 @@ pub(crate) fn clear(marks: &mut [u8])
 pub(crate) fn mark(marks: &mut [u8], at: usize)
     requires aligned { at % 8 ≡ 0 }
     requires within { at < 64 * length marks.old }
-    ensures marked { (starts : List ℕ) → Marks marks.old starts → Marks marks.new (starts ++ at ∷ []) }
+    ensures marked { (starts : List ℕ) → Marks marks.old starts
+        → Marks marks.new (starts ++ at ∷ []) }
     ensures size { length marks.new ≡ length marks.old }
 {
     let place = at / 8;

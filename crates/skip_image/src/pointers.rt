@@ -35,7 +35,13 @@ impl Image {
     }
 
     /// Sets a pointer as [`Image::set_pointer`] does, and writes the head up to its check to the disk, in one call.
-    pub fn write_pointer<D: Disk>(&mut self, disk: &mut D, at: u64, slot: u8, to: u64) -> Result<(), Failed>
+    pub fn write_pointer<D: Disk>(
+        &mut self,
+        disk: &mut D,
+        at: u64,
+        slot: u8,
+        to: u64,
+    ) -> Result<(), Failed>
         requires there { HasSlots self.old.bytes at }
         requires slot { slot ≤ (head_in self.old.bytes at).level }
         requires reads { Shows (D.state disk.old) → Reads (D.state disk.old) self.old.bytes }
@@ -43,12 +49,15 @@ impl Image {
         ensures sets { SetsPointer self.old.bytes self.new.bytes at slot to }
         ensures size { length self.new.bytes ≡ length self.old.bytes }
         ensures spare { self.old.spare ≤ self.new.spare }
-        ensures reads { OnOk result (Shows (D.state disk.new) → Reads (D.state disk.new) self.new.bytes) }
+        ensures reads { OnOk result (Shows (D.state disk.new)
+            → Reads (D.state disk.new) self.new.bytes) }
         // What a stop leaves, where the pointer may be set.
-        ensures tied { (base : List ℕ) (says : Contents) → TiedToBase base says self.old.bytes (D.state disk.old)
+        ensures tied { (base : List ℕ) (says : Contents)
+            → TiedToBase base says self.old.bytes (D.state disk.old)
             → MaySet base says self.old.bytes at slot to
             → OnOk result (TiedToBase base says self.new.bytes (D.state disk.new)) }
-        ensures moments { (base : List ℕ) (says : Contents) → TiedToBase base says self.old.bytes (D.state disk.old)
+        ensures moments { (base : List ℕ) (says : Contents)
+            → TiedToBase base says self.old.bytes (D.state disk.old)
             → MaySet base says self.old.bytes at slot to
             → LeavesMap (pairs says.chain) (D.state disk.old) (D.state disk.new) }
         ensures long { (most : ℕ) → length self.old.bytes ≤ most

@@ -52,7 +52,11 @@ impl Image {
     {
         let bytes = self.bytes();
         let start = at as usize;
-        part_at(bytes, start + head_size_at(bytes, start), key_size_at(bytes, start))
+        part_at(
+            bytes,
+            start + head_size_at(bytes, start),
+            key_size_at(bytes, start),
+        )
     }
 
     /// The value of the record at an offset.

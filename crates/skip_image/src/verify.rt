@@ -88,7 +88,8 @@ impl Image {
     /// Verifies the file: answers its first flaw with its place, in the order of docs/formats.md, or what is found in
     /// it. It takes no memory and a time that grows with the length alone, whatever the bytes are.
     pub fn verify(&mut self) -> Result<Summary, Damage>
-        ensures flaw { (damage : Damage) → (result ≡ Err damage) ↔ FirstFlaw self.old.bytes (Some damage) }
+        ensures flaw { (damage : Damage)
+            → (result ≡ Err damage) ↔ FirstFlaw self.old.bytes (Some damage) }
         ensures verified { IfOk result (λ summary.
             IsVerified self.old.bytes summary.count summary.clean) }
         ensures same { self.new ≡ self.old }

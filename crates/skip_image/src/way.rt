@@ -87,8 +87,8 @@ fn led_to(file: &[u8], log: Log, marks: &[u8], at: u64, to: u64) -> Result<u64, 
     requires inside { end_of file.now ≤ length file.now }
     ensures finds { (starts : List ℕ) → IsMarked file.now marks.now starts
         → Finds (pointer_flaw file.now starts at to) result }
-    ensures next { IfOk result (λ next. (bound : ℕ) (from : ℕ) → to ≡ pointer_under file.now bound from
-        → next ≡ successor_under file.now bound from) }
+    ensures next { IfOk result (λ next. (bound : ℕ) (from : ℕ)
+        → to ≡ pointer_under file.now bound from → next ≡ successor_under file.now bound from) }
 {
     if to == 0 {
         return Ok(0);

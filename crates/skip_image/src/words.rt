@@ -61,7 +61,8 @@ fn are_zeros(bytes: &[u8]) -> bool
 /// What stands between the value and the end of the record at an offset is zeros.
 pub(crate) fn check_padding(file: &[u8], at: u64) -> Result<(), Damage>
     requires there { HasRecord file.now at }
-    ensures { Finds (first_flaw.unless (first_flaw.is_padding_right file.now at) at Padding) result }
+    ensures { let right = first_flaw.is_padding_right file.now at in
+        Finds (first_flaw.unless right at Padding) result }
 {
     let start = at as usize;
     let used = key_size_at(file, start) + value_size_at(file, start);
@@ -75,7 +76,11 @@ fn key_at(file: &[u8], at: u64) -> &[u8]
     ensures { result.now ≡ key_in file.now at }
 {
     let start = at as usize;
-    part_at(file, start + head_size_at(file, start), key_size_at(file, start))
+    part_at(
+        file,
+        start + head_size_at(file, start),
+        key_size_at(file, start),
+    )
 }
 
 /// The key of the record at an offset is above that of the one before.

@@ -138,10 +138,10 @@ same_up_to most s y call from start =
 pub write_up_to : (most : ℕ) (s y : DiskState) (at : ℕ) (bytes : List ℕ) → at + length bytes ≤ most → DiskCall s y → Follows (λ b c. Lands b at bytes c) s y → StaysUpTo most s y
 write_up_to most s y at bytes ends call follows start =
     let after : IsUpTo most y = λ c left.
-        let from = follows.from c left in
-        let old = start from.0 from.1 in
-        let step = subst (λ (d : Image). OnFile (λ b c. Lands b at bytes c) d c) old.1 from.2 in
-        (step.0, step.1, omega (arith, step.2.no_longer, max-le old.2 ends))
+    let from = follows.from c left in
+    let old = start from.0 from.1 in
+    let step = subst (λ (d : Image). OnFile (λ b c. Lands b at bytes c) d c) old.1 from.2 in
+    (step.0, step.1, omega (arith, step.2.no_longer, max-le old.2 ends))
     in
     (after, first_call s y (OnBytes (λ file. length file ≤ most)) call start after)
 
@@ -149,9 +149,9 @@ write_up_to most s y at bytes ends call follows start =
 pub cut_up_to : (most : ℕ) (s y : DiskState) (to : ℕ) → DiskCall s y → Follows (λ b c. Shortens b to c) s y → StaysUpTo most s y
 cut_up_to most s y to call follows start =
     let after : IsUpTo most y = λ c left.
-        let from = follows.from c left in
-        let old = start from.0 from.1 in
-        let step = subst (λ (d : Image). OnFile (λ b c. Shortens b to c) d c) old.1 from.2 in
-        (step.0, step.1, omega (arith, ap length step.2.front, length-take (length step.0) old.0, old.2))
+    let from = follows.from c left in
+    let old = start from.0 from.1 in
+    let step = subst (λ (d : Image). OnFile (λ b c. Shortens b to c) d c) old.1 from.2 in
+    (step.0, step.1, omega (arith, ap length step.2.front, length-take (length step.0) old.0, old.2))
     in
     (after, first_call s y (OnBytes (λ file. length file ≤ most)) call start after)

@@ -1,4 +1,4 @@
-use Rattle.std.proofs.Common.{◌≡◌, ◌+◌, ◌≤◌, ◌%◌, ◌<◌, ◌++◌, ◌∷◌, ℕ, List, [], None, length, refl, ap, sym, subst, ◌∙◌, arith}
+use Rattle.std.proofs.Common.{◌≡◌, ◌+◌, ◌<◌, ◌++◌, ◌∷◌, ℕ, List, [], refl, ap, sym, subst, ◌∙◌, arith}
 use Rattle.skip_form.specs.declared.head.Head.{Head}
 use Rattle.skip_form.specs.Flaws.{head_in}
 use Rattle.skip_spec.specs.FirstFlaw.{end_of, RightRows}

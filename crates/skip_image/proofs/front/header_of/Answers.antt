@@ -1,4 +1,4 @@
-use Rattle.std.proofs.Common.{◌≡◌, ℕ, Option, Some, ap, sym, ◌∙◌}
+use Rattle.std.proofs.Common.{ℕ, Option, Some, ap, sym, ◌∙◌}
 use Rattle.base_bytes.specs.declared.flaw.Damage.{Damage}
 use Rattle.skip_spec.specs.FirstFlaw.{at_header_place}
 use Rattle.skip_image.proofs.front.header_of.Goals as goal

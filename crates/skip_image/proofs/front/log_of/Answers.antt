@@ -1,4 +1,4 @@
-use Rattle.std.proofs.Common.{◌≡◌, ◌%◌, ℕ, List, ◌∷◌, [], length, leb, eqb, Bool, Option, Some, None, refl, ap, sym, ◌∙◌}
+use Rattle.std.proofs.Common.{◌≡◌, ◌%◌, ℕ, List, ◌∷◌, [], leb, eqb, Bool, Option, None, refl, ap, sym, ◌∙◌}
 use Rattle.std.proofs.lemmas.Result.{err_from_is_err_and}
 use Rattle.base_bytes.specs.declared.flaw.Damage.{Damage}
 use Rattle.base_bytes.specs.declared.flaw.Flaw.TheVariants.{Size}

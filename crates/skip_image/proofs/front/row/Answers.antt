@@ -1,11 +1,10 @@
-use Rattle.std.proofs.Common.{◌≡◌, ◌+◌, ◌≤◌, ℕ, List, length, take, Option, Some, None, ap, sym, subst, ◌∙◌, arith}
+use Rattle.std.proofs.Common.{◌≡◌, ◌≤◌, ℕ, List, length, take, Some, None, ap, sym, ◌∙◌, arith}
 use Rattle.std.proofs.lemmas.List.{length-take}
 use Rattle.base_bytes.specs.declared.flaw.Flaw.{Flaw}
-use Rattle.base_bytes.specs.declared.flaw.Damage.{Damage}
 use Rattle.skip_form.specs.declared.head.Head.{Head}
 use Rattle.skip_form.specs.Flaws.{head_flaw, head_in}
 use Rattle.skip_form.proofs.HeadLemmas.{head_inside}
-use Rattle.skip_spec.specs.FirstFlaw.{end_of, before_end, at_place, row_flaw}
+use Rattle.skip_spec.specs.FirstFlaw.{end_of, at_place, row_flaw}
 use Rattle.skip_spec.proofs.BeforeEnd.{heads_before}
 use Rattle.skip_image.proofs.front.row.Goals as goal
 

@@ -1,4 +1,4 @@
-use Rattle.std.proofs.Common.{arith, ◌/◌, ◌*◌, ◌≡◌, ℕ}
+use Rattle.std.proofs.Common.{arith, ◌/◌}
 use Rattle.skip_image.proofs.Marked.{marks_read}
 use Rattle.skip_image.proofs.marks.is_marked.Goals as goal
 

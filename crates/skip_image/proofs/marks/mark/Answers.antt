@@ -1,4 +1,4 @@
-use Rattle.std.proofs.Common.{arith, ◌/◌, ◌*◌, ◌≡◌, ℕ}
+use Rattle.std.proofs.Common.{arith, ◌/◌}
 use Rattle.skip_image.proofs.Marked.{marks_push}
 use Rattle.skip_image.proofs.marks.mark.Goals as goal
 

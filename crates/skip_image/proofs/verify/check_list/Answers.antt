@@ -1,15 +1,14 @@
-use Rattle.std.proofs.Common.{◌≡◌, ◌≢◌, ℕ, ◌+◌, ◌≤◌, ◌<◌, List, length, replicate, slice_index, Option, Some, None, Result, Ok, Err, refl, sym, ap, subst, ◌∙◌, arith}
+use Rattle.std.proofs.Common.{◌≡◌, ◌≢◌, ℕ, ◌+◌, ◌≤◌, List, replicate, slice_index, None, Result, Err, refl, sym, ap, subst, ◌∙◌, arith}
 use Rattle.std.specs.Prelude.{IfErr}
 use Rattle.std.proofs.lemmas.List.{get_or-replicate}
 use Rattle.std.proofs.lemmas.Result.{err_from_is_err_and}
 use Rattle.base_bytes.specs.Fields.{AreBytes}
 use Rattle.base_bytes.specs.declared.flaw.Damage.{Damage}
 use Rattle.skip_form.specs.Flaws.{head_in}
-use Rattle.skip_spec.specs.FirstFlaw.{end_of, way_flaw, successor, live_flaw, RightRows, InChain}
+use Rattle.skip_spec.specs.FirstFlaw.{end_of, way_flaw, successor, live_flaw, RightRows}
 use Rattle.skip_spec.proofs.Flawless.{FrontIsRight, front_right}
-use Rattle.skip_image.specs.Image.{HasRecord}
 use Rattle.skip_image.specs.Verifying.{Raises}
-use Rattle.skip_image.proofs.ListWalk.{IsHead, slots_at, dummy_head, dummy_uppers, passed_none, next_head, Passed, stops_on_way, stops_at_end, ends_here, stops_at_live, passes_on, not_so_many, raised_uppers}
+use Rattle.skip_image.proofs.ListWalk.{IsHead, dummy_head, dummy_uppers, passed_none, next_head, Passed, stops_on_way, stops_at_end, ends_here, stops_at_live, passes_on, not_so_many, raised_uppers}
 use Rattle.skip_image.proofs.verify.check_list.Goals as goal
 
 -- the exit of a check

@@ -1,4 +1,4 @@
-use Rattle.std.proofs.Common.{◌≡◌, sym, ◌∙◌, arith}
+use Rattle.std.proofs.Common.{arith}
 use Rattle.skip_spec.proofs.Flawless.{front_right, row_stands}
 use Rattle.skip_image.proofs.Verified.{is_verified}
 use Rattle.skip_image.proofs.verify.examine.Goals as goal

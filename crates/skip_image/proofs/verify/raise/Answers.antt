@@ -1,4 +1,4 @@
-use Rattle.std.proofs.Common.{◌≡◌, ◌≤◌, ◌<◌, ℕ, List, subst, arith}
+use Rattle.std.proofs.Common.{◌≡◌, ℕ, subst, arith}
 use Rattle.skip_image.specs.Verifying.{Raises}
 use Rattle.skip_image.proofs.verify.raise.Goals as goal
 

@@ -1,4 +1,4 @@
-use Rattle.std.proofs.Common.{◌≡◌, ◌≤◌, ℕ, length}
+use Rattle.std.proofs.Common.{◌≡◌, length}
 use Rattle.skip_image.specs.Verifying.{Raises}
 use Rattle.skip_image.proofs.verify.raise.Given as goal
 

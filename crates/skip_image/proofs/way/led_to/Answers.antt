@@ -1,12 +1,8 @@
-use Rattle.std.proofs.Common.{◌≡◌, ◌≢◌, ℕ, Bool, eqb, List, Result, Ok, Err, ap, sym, subst, ◌∙◌, arith}
+use Rattle.std.proofs.Common.{◌≡◌, ℕ, Result, Ok, Err, sym, subst, ◌∙◌, arith}
 use Rattle.std.specs.Prelude.{IfOk}
 use Rattle.std.proofs.lemmas.Bool.{eq-eqb, ne_eqb}
 use Rattle.base_bytes.specs.declared.flaw.Damage.{Damage}
-use Rattle.skip_form.specs.Fields.{pointer_in}
-use Rattle.skip_spec.specs.FirstFlaw.{is_among}
-use Rattle.skip_spec.specs.Successor.{pointer_under, successor_under}
 use Rattle.skip_spec.proofs.AnAnswer.{holds}
-use Rattle.skip_image.specs.Image.{HasRecord}
 use Rattle.skip_image.proofs.Starts.{stands_there}
 use Rattle.skip_image.proofs.Steps.{step_to_end, step_to_live, step_over_gone}
 use Rattle.skip_image.proofs.way.led_to.Goals as goal

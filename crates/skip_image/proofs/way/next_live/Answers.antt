@@ -1,7 +1,6 @@
-use Rattle.std.proofs.Common.{◌≡◌, ℕ, List, ◌∷◌, [], Option, ap, sym, refl, ◌∙◌}
+use Rattle.std.proofs.Common.{◌≡◌, ℕ, List, ◌∷◌, [], ap, sym, refl, ◌∙◌}
 use Rattle.std.proofs.lemmas.Result.{err_from_is_err_and}
 use Rattle.base_bytes.specs.declared.flaw.Flaw.TheVariants.{Slot}
-use Rattle.base_bytes.specs.declared.flaw.Damage.{Damage}
 use Rattle.skip_spec.specs.Successor.{pointer_under}
 use Rattle.skip_spec.specs.FirstFlaw.{unless, first_some, are_slots_right, pointer_flaw, pointer_under_end, way_flaw}
 use Rattle.skip_image.proofs.Exits.{step_over, stop_at, last_check, found, found_as}

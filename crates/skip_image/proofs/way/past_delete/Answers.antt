@@ -1,5 +1,4 @@
-use Rattle.std.proofs.Common.{◌≡◌, ℕ, Bool, true, false, eqb, List, ◌∷◌, [], Option, None, refl, ap, sym, ◌∙◌, arith}
-use Rattle.std.specs.Prelude.{◌||◌}
+use Rattle.std.proofs.Common.{◌≡◌, ℕ, Bool, eqb, List, ◌∷◌, Option, None, refl, ap, sym, ◌∙◌, arith}
 use Rattle.std.proofs.lemmas.Bool.{eq-eqb, ne_eqb}
 use Rattle.std.proofs.lemmas.Result.{err_from_is_err_and}
 use Rattle.base_bytes.specs.declared.flaw.Flaw.TheVariants.{Check, Tail, Place, Kind}
@@ -12,7 +11,7 @@ use Rattle.skip_form.proofs.HeadLemmas.{head_flaw-StandsAt}
 use Rattle.skip_spec.specs.Successor.{is_of}
 use Rattle.skip_spec.specs.FirstFlaw.{unless, first_some, is_among, is_head_right, is_tail_right, delete_flaw}
 use Rattle.skip_spec.proofs.AnAnswer.{holds}
-use Rattle.skip_image.proofs.Exits.{step_over, stop_at, last_check, found}
+use Rattle.skip_image.proofs.Exits.{step_over, stop_at, found}
 use Rattle.skip_image.proofs.Starts.{past_checks, ends_there, goes_on, stands_there}
 use Rattle.skip_image.proofs.way.past_delete.Goals as goal
 

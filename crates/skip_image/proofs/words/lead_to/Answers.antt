@@ -1,4 +1,4 @@
-use Rattle.std.proofs.Common.{◌≡◌, sym, ◌∙◌, arith}
+use Rattle.std.proofs.Common.{sym, ◌∙◌, arith}
 use Rattle.skip_image.proofs.LinkChecks.{leads_on, leads_elsewhere}
 use Rattle.skip_image.proofs.words.lead_to.Goals as goal
 

@@ -1,4 +1,4 @@
-use Rattle.std.proofs.Common.{◌≡◌, ◌≤◌, ◌-◌, ℕ, List, length}
+use Rattle.std.proofs.Common.{◌≡◌, ◌≤◌, ◌-◌, List}
 use Rattle.skip_spec.specs.Chain.{Entry}
 use Rattle.skip_spec.specs.FirstFlaw as first_flaw
 use Rattle.skip_image.specs.Verifying.{AreLatest}

@@ -1,4 +1,4 @@
-use Rattle.std.proofs.Common.{◌≡◌, List, ℕ, sym, subst, ap, ◌∙◌, slice_index}
+use Rattle.std.proofs.Common.{◌≡◌, List, ℕ, sym, ap, ◌∙◌, slice_index}
 use Rattle.skip_form.specs.Fields.{pointer_in}
 use Rattle.skip_spec.specs.Successor.{pointer_under}
 use Rattle.skip_image.proofs.Steps.{step_to_end, step_to_put, step_past_gone}

@@ -1,4 +1,4 @@
-use Rattle.std.proofs.Common.{List, ℕ, ap, sym, subst, ◌∙◌}
+use Rattle.std.proofs.Common.{List, ℕ, ap, subst, ◌∙◌}
 use Rattle.skip_spec.specs.FirstFlaw.{FirstFlaw}
 use Rattle.skip_image.specs.Image.{ImageView}
 use Rattle.skip_image.specs.Verifying.{answer_of}

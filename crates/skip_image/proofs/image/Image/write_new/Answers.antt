@@ -1,4 +1,4 @@
-use Rattle.std.proofs.Common.{◌≡◌, ◌≤◌, ◌+◌, ◌-◌, ◌++◌, ℕ, List, length, take, drop, min, Option, Some, None, refl, sym, ◌∙◌, ap, subst, append_assoc, take-add, arith}
+use Rattle.std.proofs.Common.{◌≡◌, ◌≤◌, ◌-◌, ◌++◌, ℕ, List, take, drop, Option, Some, None, sym, ◌∙◌, ap, subst, append_assoc, take-add, arith}
 use Rattle.std.specs.Option.{option_map}
 use Rattle.base_devices.specs.CrashImages.{Fresh}
 use Rattle.base_devices.specs.DiskCalls.{fresh_bytes, appended}

@@ -1,12 +1,10 @@
-use Rattle.std.proofs.Common.{◌≡◌, ℕ, ◌+◌, ◌-◌, List, length, sym, ap, subst, ◌∙◌, Some, Option, arith}
-use Rattle.base_devices.specs.CrashImages.{Image}
-use Rattle.base_devices.specs.DiskCalls.{with_bytes}
+use Rattle.std.proofs.Common.{◌≡◌, ℕ, ◌-◌, List, sym, ap, ◌∙◌, Some}
 use Rattle.base_bytes.specs.Fields.{part}
 use Rattle.base_bytes.specs.Landing.{written_at}
 use Rattle.skip_form.specs.Flaws.{head_in}
 use Rattle.skip_spec.specs.Records.{head_size_of}
 use Rattle.skip_lists.proofs.Setting.{set_as_written}
-use Rattle.skip_lists.proofs.Ties.{pointer_moments, pointer_tied, reads_written, write_up_to}
+use Rattle.skip_lists.proofs.Ties.{pointer_moments, pointer_tied, reads_written}
 use Rattle.skip_image.proofs.image.Image.write_pointer.Goals as goal
 
 -- the bytes that are written are those of the new head up to its check
