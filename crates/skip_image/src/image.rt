@@ -24,7 +24,7 @@ impl Model for Image {
     ghost view = { λ i. record {
       bytes = i.bytes.items;
       spare = min (vec_capacity i.bytes - vec_len i.bytes)
-        (64 * vec_capacity i.marks - vec_len i.bytes);
+          (64 * vec_capacity i.marks - vec_len i.bytes);
     } };
 
     ghost invariant = { λ i. (vec_len i.bytes ≤ 64 * vec_len i.marks)
