@@ -1,0 +1,94 @@
+use Rattle.std.proofs.Common.{length, arith}
+use Rattle.skip_spec.specs.Chain.{pairs}
+use Rattle.skip_lists.proofs.Ties.{then_leaves, then_up_to}
+use Rattle.skip_change.proofs.Dirtied.{dirtied_spot, stored_is, is_tied, tied_again}
+use Rattle.skip_change.proofs.Ended.{tied_up_to}
+use Rattle.skip_change.proofs.OnePlace.{spot_at}
+use Rattle.skip_change.proofs.transaction.put_pair.Goals as goal
+
+pub make_dirty-requires-clause-there : goal.make_dirty-requires-clause-there
+make_dirty-requires-clause-there g c = let least = c.requires.spot.live.listed.log.least in omega (arith, least)
+
+pub store-requires-clause-room : goal.store-requires-clause-room
+store-requires-clause-room g c = omega (arith, c.requires.room, c.make_dirty.ensures.spare)
+
+pub store-requires-clause-limit : goal.store-requires-clause-limit
+store-requires-clause-limit g c = omega (arith, c.requires.limit, c.make_dirty.ensures.dirty.long)
+
+pub store-requires-clause-spot : goal.store-requires-clause-spot
+store-requires-clause-spot g c = dirtied_spot c.args.image.now.bytes c.make_dirty.new.image.bytes c.args.key.now c.args.spot.now c.make_dirty.ensures.dirty c.requires.spot
+
+pub returns-clause-stores : goal.returns-clause-stores
+returns-clause-stores g c = λ starts es live place.
+    let b = c.args.image.now.bytes in
+    let m = c.make_dirty.new.image.bytes in
+    let key = c.args.key.now in
+    let spot = c.args.spot.now in
+    let dirty = c.make_dirty.ensures.dirty in
+    let s = spot_at b key spot c.requires.spot starts es live place in
+    stored_is b m c.store.new.image.bytes key spot s dirty c.args.level c.args.value.now (c.in_ok-store.ensures.stored (dirtied_spot b m key spot dirty s))
+
+pub returns-clause-tied : goal.returns-clause-tied
+returns-clause-tied g c = λ base says end t.
+    let m = c.make_dirty.new.image.bytes in
+    let d = g.D.Disk.state c.make_dirty.new.disk in
+    let first = c.in_ok-make_dirty.ensures.tied base says t in
+    let new = c.store.new.image.bytes in
+    let up = c.store.ensures.long (length new) (omega arith) (λ i left. let is = tied_up_to base m says d first i left in (is.0, is.1, omega (arith, is.2, c.store.ensures.length))) in
+    tied_again base new says c.args.committed (g.D.Disk.state c.store.new.disk) (c.in_ok-store.ensures.tied base says (is_tied base m says c.args.committed d end first)) up.0
+
+pub returns-in_err-make_dirty-clause-moments : goal.returns-in_err-make_dirty-clause-moments
+returns-in_err-make_dirty-clause-moments g c = λ base says end t. c.make_dirty.ensures.moments base says t
+
+pub returns-in_err-store-clause-moments : goal.returns-in_err-store-clause-moments
+returns-in_err-store-clause-moments g c = λ base says end t.
+    let on = g.met.D.Disk.rest_goes_on in
+    let m = c.make_dirty.new.image.bytes in
+    let d = g.D.Disk.state c.make_dirty.new.disk in
+    let first = c.in_ok-make_dirty.ensures.tied base says t in
+    then_leaves (pairs says.chain) _ _ _ (on _ _ c.make_dirty.ensures.rest) (on _ _ c.store.ensures.rest) c.make_dirty.ensures.mark (c.make_dirty.ensures.moments base says t)
+    (c.store.ensures.moments base says (is_tied base m says c.args.committed d end first))
+
+pub returns-clause-moments : goal.returns-clause-moments
+returns-clause-moments g c = λ base says end t.
+    let on = g.met.D.Disk.rest_goes_on in
+    let m = c.make_dirty.new.image.bytes in
+    let d = g.D.Disk.state c.make_dirty.new.disk in
+    let first = c.in_ok-make_dirty.ensures.tied base says t in
+    then_leaves (pairs says.chain) _ _ _ (on _ _ c.make_dirty.ensures.rest) (on _ _ c.store.ensures.rest) c.make_dirty.ensures.mark (c.make_dirty.ensures.moments base says t)
+    (c.store.ensures.moments base says (is_tied base m says c.args.committed d end first))
+
+pub returns-in_err-make_dirty-clause-long : goal.returns-in_err-make_dirty-clause-long
+returns-in_err-make_dirty-clause-long g c = λ most le. c.make_dirty.ensures.long most (omega (arith, le))
+
+pub returns-in_err-store-clause-long : goal.returns-in_err-store-clause-long
+returns-in_err-store-clause-long g c = λ most le.
+    let on = g.met.D.Disk.rest_goes_on in
+    then_up_to most _ _ _ (on _ _ c.make_dirty.ensures.rest) (on _ _ c.store.ensures.rest) c.make_dirty.ensures.mark (c.make_dirty.ensures.long most (omega (arith, le))) (c.store.ensures.long most (omega (arith, le, c.store.ensures.length, c.make_dirty.ensures.dirty.long)))
+
+pub returns-clause-long : goal.returns-clause-long
+returns-clause-long g c = λ most le.
+    let on = g.met.D.Disk.rest_goes_on in
+    then_up_to most _ _ _ (on _ _ c.make_dirty.ensures.rest) (on _ _ c.store.ensures.rest) c.make_dirty.ensures.mark (c.make_dirty.ensures.long most (omega (arith, le))) (c.store.ensures.long most (omega (arith, le, c.store.ensures.length, c.make_dirty.ensures.dirty.long)))
+
+pub returns-in_err-make_dirty-clause-written : goal.returns-in_err-make_dirty-clause-written
+returns-in_err-make_dirty-clause-written g c = λ s. omega (arith, c.make_dirty.ensures.written)
+
+pub returns-in_err-store-clause-written : goal.returns-in_err-store-clause-written
+returns-in_err-store-clause-written g c = λ s.
+    let more = c.store.ensures.written (dirtied_spot c.args.image.now.bytes c.make_dirty.new.image.bytes c.args.key.now c.args.spot.now c.make_dirty.ensures.dirty s) in
+    omega (arith, c.make_dirty.ensures.written, more)
+
+pub returns-clause-written : goal.returns-clause-written
+returns-clause-written g c = λ s.
+    let more = c.store.ensures.written (dirtied_spot c.args.image.now.bytes c.make_dirty.new.image.bytes c.args.key.now c.args.spot.now c.make_dirty.ensures.dirty s) in
+    omega (arith, c.make_dirty.ensures.written, more)
+
+pub returns-in_err-make_dirty-clause-spare : goal.returns-in_err-make_dirty-clause-spare
+returns-in_err-make_dirty-clause-spare g c = omega (arith, c.make_dirty.ensures.spare)
+
+pub returns-in_err-store-clause-spare : goal.returns-in_err-store-clause-spare
+returns-in_err-store-clause-spare g c = omega (arith, c.make_dirty.ensures.spare, c.store.ensures.spare)
+
+pub returns-clause-spare : goal.returns-clause-spare
+returns-clause-spare g c = omega (arith, c.make_dirty.ensures.spare, c.store.ensures.spare)
