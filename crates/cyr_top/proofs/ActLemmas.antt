@@ -126,7 +126,7 @@ module _ (kind : DbKind) (laws : DbLaws kind) (action : Action) (g : Given) wher
       warned = nothing.warned;
       ends = λ no_fault. not_opened (why fault no_fault refused) disk.mark (record { each = λ c n left. inl ((less fault no_fault disk.unopened).each.each c n left).1 });
       unopened = λ no_fault main is f un. file_of_less d e (less fault no_fault disk.unopened);
-      kept = λ main is there settled prints. file_of_less d e (disk.settled (λ bytes reads. settled bytes (image_of main bytes is reads)));
+      kept = λ main is there settled prints. file_of_less d e (disk.settled main is settled);
       checked = λ is. absurd (other is);
       in_place = λ _ bytes reads. disk.publishes;
       absent = λ make. absurd (cc make);
@@ -224,7 +224,7 @@ module _ (kind : DbKind) (laws : DbLaws kind) (action : Action) (g : Given) wher
       ends = λ no_fault. opened s starts (stands no_fault (task.stands no_fault));
       unopened = λ no_fault main is f un. absurd (opens_fails asked laws main s f (opens main is) un);
       kept = λ main is there settled prints.
-          let less = disk.settled (λ bytes reads. settled bytes (image_of main bytes is reads)) in
+          let less = disk.settled main is settled in
           file_then d x e dx xe (omega (arith, disk.mark)) marks less.leaves (file_of_less d x less) (file_of_prints x e (task.only_prints (prints s (starts main is))).0);
       checked = λ is. absurd (other is);
       in_place = λ is bytes reads. task.in_place is ∙ disk.publishes;

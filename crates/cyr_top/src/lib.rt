@@ -1,14 +1,16 @@
 //! The top call: what the words of a command line do. Read in this order:
 //!
 //!   running    `run`: words, or a job that was read from them, over a host; here the backend is chosen
-//!   flat       an action over a flat file: made, checked, or opened and done
+//!   files      what a backend does with its files, and each backend's
+//!   acting     an action over a file: made, checked, or opened and done
 //!   checking   the line that a check prints
 //! What a run owes stands in specs/: Asked (what the words ask), Stated (note and output), Actions (what is left),
 //! Crashes (the promises in words of maps and transactions).
 #![tactic(auto)]
 
+mod acting;
 mod checking;
-mod flat;
+mod files;
 mod running;
 
 pub use running::{run, run_job};

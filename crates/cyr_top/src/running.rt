@@ -13,9 +13,11 @@ ghost use Rattle.db_core.specs.Sessions.{DbState};
 ghost use Rattle.db_tool.specs.Tasks.{given};
 ghost use Rattle.db_tool.specs.ToolNotes.{IsFault, IsCutOff};
 
-use crate::flat::on_flat;
+use crate::acting::on_files;
+use crate::files::FlatFiles;
 use base_devices::Host;
 use base_notes::{Action, Backend, Note, Outcome};
+use flat_db::FlatDb;
 use rand_core::Rng;
 use std::alloc::Global;
 use tool_words::{Job, WordFault, job};
@@ -54,7 +56,7 @@ fn do_job<H: Host, R: Rng>(alloc: Global, job: &Job, host: &mut H, rng: &mut R) 
             backend: Backend::Flat,
             action,
             ..
-        } if can_do(action) => on_flat(alloc, *make, action, host, rng),
+        } if can_do(action) => on_files::<H, FlatDb, FlatFiles, R>(alloc, *make, action, host, rng),
         _ => Note::Usage,
     }
 }

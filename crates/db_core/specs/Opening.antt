@@ -2,7 +2,7 @@
 use Rattle.std.specs.Prelude.{◌≡◌, ◌⊎◌, ℕ, ◌<◌, ◌≤◌, List, Option, Some, None, Result, OnOk, IfOk, IfErr, length}
 use Rattle.base_bytes.specs.OrderedMap.{Map, IsDbMap}
 use Rattle.base_bytes.specs.declared.flaw.Damage.{Damage}
-use Rattle.base_devices.specs.CrashImages.{Image, DiskState, LeavesOnly, IsDurable, Reads, WhereRead}
+use Rattle.base_devices.specs.CrashImages.{Image, DiskState, LeavesOnly, IsDurable, WhereRead}
 use Rattle.base_devices.specs.Frames.{MayLeaveLess}
 use Rattle.db_core.specs.Sessions.{DbKind, DbState, at_rest}
 use Rattle.db_core.specs.declared.opening.OpenFault.{OpenFault}
@@ -83,7 +83,7 @@ pub record OpensDisk {B : Type 0} (kind : DbKind) (old new : DiskState) (result 
   pub mark : new.mark ≡ old.mark
   pub publishes : new.publishes ≡ old.publishes
   -- a settled file is only synced and read, and so is one that does not open
-  pub settled : ((bytes : List ℕ) → Reads old bytes → kind.is_settled bytes) → MayLeaveLess old new
+  pub settled : WhereRead old (λ main. ((bytes : List ℕ) → main ≡ Some bytes → kind.is_settled bytes) → MayLeaveLess old new)
   pub unopened : IfErr result (λ fault. IsDeviceFault fault ⊎ MayLeaveLess old new)
   -- what was looked at is on the disk
   pub durable : OnOk result (IsDurable new)

@@ -15,7 +15,7 @@ opens_disk {B = B} old new result less durable synced = record {
   each = record { each = λ c n left. let p = less.each.each c n left in (p.0, inl p.1) };
   mark = less.mark;
   publishes = less.publishes;
-  settled = λ settled. less;
+  settled = λ main is settled. less;
   unopened = by result;
   durable = durable;
   synced = synced;

@@ -9,32 +9,30 @@ use Rattle.base_notes.specs.declared.note.Note.TheVariants.{Done, Answer}
 use Rattle.base_devices.specs.HostCalls.{moment}
 use Rattle.db_core.specs.declared.opening.OpenFault.TheVariants.{Damaged as Flawed}
 use Rattle.db_tool.specs.Tasks.{given}
-use Rattle.flat_db.specs.Sessions.{flat_kind}
-use Rattle.flat_db.proofs.KindLaws.{flat_laws}
 use Rattle.rand_core.specs.Stream.{Stream}
 use Rattle.cyr_top.specs.Stated.{unopened}
 use Rattle.cyr_top.proofs.CheckLemmas.{line_does, refusal_does, counted_opens, stood_for}
-use Rattle.cyr_top.proofs.flat.check.Goals as goal
+use Rattle.cyr_top.proofs.acting.check.Goals as goal
 
 pub returns-in-Ok-clause-does : goal.returns-in-Ok-clause-does
 returns-in-Ok-clause-does g c = λ (words : Stream).
-    line_does flat_kind flat_laws (given words []) Done c.end_with.result (codes "consistent\n") _ _ _ _ _ _
+    line_does g.B.Db.kind c.requires (given words []) Done c.end_with.result (codes "consistent\n") _ _ _ _ _ _
     (g.met.H.Disk.rest_goes_on _ _ c.check_db.ensures.rest) (g.met.H.Host.host_goes_on _ _ c.end_with.ensures.rest) (g.met.H.Host.disk_keeps _ _ c.check_db.ensures.rest)
     c.check_db.ensures.stays c.check_db.ensures.fresh c.in-Ok.ensures.cause.kept
-    (λ main is. let met = c.in-Ok.ensures.checks.counted main is in counted_opens flat_kind flat_laws (given words []) main met.0 met.1) tt (λ is. cc is) c.end_with.ensures.looks
+    (λ main is. let met = c.in-Ok.ensures.checks.counted main is in counted_opens g.B.Db.kind c.requires (given words []) main met.0 met.1) tt (λ is. cc is) c.end_with.ensures.looks
 
 pub returns-in-Some-clause-does : goal.returns-in-Some-clause-does
 returns-in-Some-clause-does g c = λ (words : Stream).
     let met = c.in-Err.ensures in
-    line_does flat_kind flat_laws (given words []) Answer c.end_with-in-Some.result c.as_str.result.now _ _ _ _ _ _
+    line_does g.B.Db.kind c.requires (given words []) Answer c.end_with-in-Some.result c.as_str.result.now _ _ _ _ _ _
     (g.met.H.Disk.rest_goes_on _ _ c.check_db.ensures.rest) (g.met.H.Host.host_goes_on _ _ c.end_with-in-Some.ensures.rest) (g.met.H.Host.disk_keeps _ _ c.check_db.ensures.rest)
     c.check_db.ensures.stays c.check_db.ensures.fresh (stood_for c.in-Err.fault _ _ c.in-Some.ensures.some met.cause)
-    (λ main is. unopened (Flawed c.in-Some.flaw.at c.in-Some.flaw.check) (subst (λ (f : OpenFault). IsOpenRefusal flat_kind main f) c.in-Some.ensures.some (met.checks.refused main is)) refl (c.as_str.ensures.value ∙ c.line_of_flaw.ensures)) tt (λ is. cc is) c.end_with-in-Some.ensures.looks
+    (λ main is. unopened (Flawed c.in-Some.flaw.at c.in-Some.flaw.check) (subst (λ (f : OpenFault). IsOpenRefusal g.B.Db.kind main f) c.in-Some.ensures.some (met.checks.refused main is)) refl (c.as_str.ensures.value ∙ c.line_of_flaw.ensures)) tt (λ is. cc is) c.end_with-in-Some.ensures.looks
 
 pub returns-in-Some-clause-rest : goal.returns-in-Some-clause-rest
 returns-in-Some-clause-rest g c = g.met.H.Host.host_then _ _ _ (g.met.H.Host.disk_rests _ _ c.check_db.ensures.rest) c.end_with-in-Some.ensures.rest
 
 pub returns-in-None-clause-does : goal.returns-in-None-clause-does
 returns-in-None-clause-does g c = λ (words : Stream).
-    subst (λ (n : Note). DoesAction (asking flat_kind false Consistent (given words [])) (moment (g.H.Disk.state c.args.host.now) (g.H.Host.streams c.args.host.now)) (moment (g.H.Disk.state c.check_db.new.disk) (g.H.Host.streams c.check_db.new.disk)) n) (sym c.note_of_opening.ensures)
-    (refusal_does flat_kind flat_laws (given words []) c.in-Err.fault _ _ _ _ (g.met.H.Host.disk_keeps _ _ c.check_db.ensures.rest) c.check_db.ensures.stays c.check_db.ensures.fresh c.in-None.ensures.none c.in-Err.ensures.checks.refused c.in-Err.ensures.cause)
+    subst (λ (n : Note). DoesAction (asking g.B.Db.kind false Consistent (given words [])) (moment (g.H.Disk.state c.args.host.now) (g.H.Host.streams c.args.host.now)) (moment (g.H.Disk.state c.check_db.new.host) (g.H.Host.streams c.check_db.new.host)) n) (sym c.note_of_opening.ensures)
+    (refusal_does g.B.Db.kind c.requires (given words []) c.in-Err.fault _ _ _ _ (g.met.H.Host.disk_keeps _ _ c.check_db.ensures.rest) c.check_db.ensures.stays c.check_db.ensures.fresh c.in-None.ensures.none c.in-Err.ensures.checks.refused c.in-Err.ensures.cause)

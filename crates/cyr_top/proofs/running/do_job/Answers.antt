@@ -1,0 +1,5 @@
+use Rattle.flat_db.proofs.KindLaws.{flat_laws}
+use Rattle.cyr_top.proofs.running.do_job.Goals as goal
+
+pub on_files-requires-clause-laws : goal.on_files-requires-clause-laws
+on_files-requires-clause-laws g c = flat_laws

@@ -1,0 +1,55 @@
+// What a backend does with its files: they are made, opened and looked through.
+ghost use Rattle.std.specs.Prelude.{◌≡◌, IfOk};
+ghost use Rattle.base_devices.specs.Causes.{FaultHasCause, HasCause};
+ghost use Rattle.base_devices.specs.Frames.{MayReplace, Replaces, StaysAs};
+ghost use Rattle.db_core.specs.Opening.{ChecksAs, IsDeviceFault, OpensAs, OpensDisk};
+
+use base_devices::{Failed, Host};
+use db_core::{Db, OpenFault};
+use flat_db::FlatDb;
+use std::alloc::Global;
+
+/// The files of a backend, over the main file of a host.
+pub(crate) trait Files<H: Host, B: Db<H>> {
+    /// Publishes the file of the map without a pair.
+    fn create(host: &mut H) -> Result<(), Failed>
+        ensures replaces { Replaces B.kind.empty (H.state host.old) (H.state host.new) result }
+        ensures any_moment { MayReplace B.kind.empty (H.state host.old) (H.state host.new) }
+        ensures cause { HasCause (H.state host.old).faults (H.state host.new).faults result }
+        ensures rest { H.disk_rest host.old host.new };
+
+    /// Opens the main file.
+    fn open_db(alloc: Global, host: &mut H) -> Result<B, OpenFault>
+        ensures opens { OpensAs B.kind B.state (H.state host.old) result }
+        ensures disk { OpensDisk B.kind (H.state host.old) (H.state host.new) result }
+        ensures cause { FaultHasCause IsDeviceFault (H.state host.old).faults
+            (H.state host.new).faults result }
+        ensures tied { IfOk result (λ db. B.tie db host.new) }
+        ensures rest { H.disk_rest host.old host.new };
+
+    /// How many pairs the main file has. It only reads.
+    fn check_db(alloc: Global, host: &mut H) -> Result<u64, OpenFault>
+        ensures checks { ChecksAs B.kind (H.state host.old) result }
+        ensures cause { FaultHasCause IsDeviceFault (H.state host.old).faults
+            (H.state host.new).faults result }
+        ensures fresh { (H.state host.new).fresh ≡ (H.state host.old).fresh }
+        ensures stays { StaysAs (H.state host.old) (H.state host.new) }
+        ensures rest { H.disk_rest host.old host.new };
+}
+
+/// Files of flat text.
+pub(crate) struct FlatFiles;
+
+impl<H: Host> Files<H, FlatDb> for FlatFiles {
+    fn create(host: &mut H) -> Result<(), Failed> {
+        flat_db::create(host)
+    }
+
+    fn open_db(alloc: Global, host: &mut H) -> Result<FlatDb, OpenFault> {
+        flat_db::open_db(alloc, host)
+    }
+
+    fn check_db(alloc: Global, host: &mut H) -> Result<u64, OpenFault> {
+        flat_db::check_db(alloc, host)
+    }
+}
