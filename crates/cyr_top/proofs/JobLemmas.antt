@@ -6,6 +6,8 @@ use Rattle.db_core.specs.Sessions.{DbLaws}
 use Rattle.db_tool.specs.Tasks.{Given}
 use Rattle.flat_db.specs.Sessions.{flat_kind}
 use Rattle.flat_db.proofs.KindLaws.{flat_laws}
+use Rattle.skip_kind.specs.Kind.{skip_kind}
+use Rattle.skip_kind.proofs.KindLaws.{skip_laws}
 use Rattle.tool_words.specs.JobOf.{job_of}
 use Rattle.tool_words.specs.declared.jobs.Job.{Job}
 use Rattle.tool_words.specs.declared.jobs.Job.TheVariants.{Dbtool}
@@ -14,7 +16,7 @@ use Rattle.cyr_top.specs.Asked.{Asked, asking, OnDatabase, is_built, if_built, b
 -- what follows for each kind follows for the job
 pub on_job : (g : Given) (P Q : Asked → Type 0) → ((asked : Asked) → DbLaws asked.kind → P asked → Q asked) → (job : Job) → OnDatabase g P job → OnDatabase g Q job
 on_job g P Q follows (Dbtool make file Flat action) met = follows (asking flat_kind make action g) flat_laws met
-on_job g P Q follows (Dbtool make file Twoskip action) met = tt
+on_job g P Q follows (Dbtool make file Twoskip action) met = follows (asking skip_kind make action g) skip_laws met
 on_job g P Q follows job met = tt
 
 -- words that stand for no built job stand for one that is not built, or for none

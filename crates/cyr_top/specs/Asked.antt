@@ -2,10 +2,11 @@
 use Rattle.std.specs.Prelude.{◌≡◌, Bool, true, false, List, ℕ, Option, None, Some, option_and_then, if◌then◌else◌}
 use Rattle.base_notes.specs.declared.action.Action.{Action}
 use Rattle.base_notes.specs.declared.action.Action.TheVariants.{Consistent, Show, Get, Set, Delete}
-use Rattle.base_notes.specs.declared.action.Backend.TheVariants.{Flat}
+use Rattle.base_notes.specs.declared.action.Backend.TheVariants.{Flat, Twoskip}
 use Rattle.db_core.specs.Sessions.{DbKind, DbState}
 use Rattle.db_tool.specs.Tasks.{Given, Task, task_of}
 use Rattle.flat_db.specs.Sessions.{flat_kind}
+use Rattle.skip_kind.specs.Kind.{skip_kind}
 use Rattle.tool_words.specs.JobOf.{job_of}
 use Rattle.tool_words.specs.declared.jobs.Job.{Job}
 use Rattle.tool_words.specs.declared.jobs.Job.TheVariants.{Dbtool}
@@ -35,7 +36,7 @@ is_done Consistent = true
 is_done action = false
 
 abbrev pub is_built : Job → Bool
-is_built (Dbtool make file Flat action) = is_done action
+is_built (Dbtool make file backend action) = is_done action
 is_built job = false
 
 abbrev pub if_built : Job → Option Job
@@ -48,6 +49,7 @@ built_job_of words = option_and_then if_built (job_of words)
 -- What holds of a job over a database, by the kind of its backend. This is the one place that chooses the kind.
 abbrev pub OnDatabase : Given → (Asked → Type 0) → Job → Type 0
 OnDatabase given P (Dbtool make file Flat action) = P (asking flat_kind make action given)
+OnDatabase given P (Dbtool make file Twoskip action) = P (asking skip_kind make action given)
 OnDatabase given P job = Unit {0}
 
 -- P holds of what the words ask of a database

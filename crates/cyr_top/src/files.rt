@@ -8,6 +8,7 @@ use base_devices::{Failed, Host};
 use db_core::{Db, OpenFault};
 use flat_db::FlatDb;
 use std::alloc::Global;
+use twoskip::Twoskip;
 
 /// The files of a backend, over the main file of a host.
 pub(crate) trait Files<H: Host, B: Db<H>> {
@@ -51,5 +52,22 @@ impl<H: Host> Files<H, FlatDb> for FlatFiles {
 
     fn check_db(alloc: Global, host: &mut H) -> Result<u64, OpenFault> {
         flat_db::check_db(alloc, host)
+    }
+}
+
+/// Files of twoskip.
+pub(crate) struct TwoskipFiles;
+
+impl<H: Host> Files<H, Twoskip> for TwoskipFiles {
+    fn create(host: &mut H) -> Result<(), Failed> {
+        twoskip::create(host)
+    }
+
+    fn open_db(alloc: Global, host: &mut H) -> Result<Twoskip, OpenFault> {
+        twoskip::open_db(alloc, host)
+    }
+
+    fn check_db(alloc: Global, host: &mut H) -> Result<u64, OpenFault> {
+        twoskip::check_db(alloc, host)
     }
 }

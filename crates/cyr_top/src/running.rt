@@ -14,13 +14,14 @@ ghost use Rattle.db_tool.specs.Tasks.{given};
 ghost use Rattle.db_tool.specs.ToolNotes.{IsFault, IsCutOff};
 
 use crate::acting::on_files;
-use crate::files::FlatFiles;
+use crate::files::{FlatFiles, TwoskipFiles};
 use base_devices::Host;
 use base_notes::{Action, Backend, Note, Outcome};
 use flat_db::FlatDb;
 use rand_core::Rng;
 use std::alloc::Global;
 use tool_words::{Job, WordFault, job};
+use twoskip::Twoskip;
 
 // Whether an action is built.
 fn can_do(action: &Action) -> bool
@@ -56,7 +57,17 @@ fn do_job<H: Host, R: Rng>(alloc: Global, job: &Job, host: &mut H, rng: &mut R) 
             backend: Backend::Flat,
             action,
             ..
-        } if can_do(action) => on_files::<H, FlatDb, FlatFiles, R>(alloc, *make, action, host, rng),
+        } if can_do(action) => {
+            on_files::<H, FlatDb, FlatFiles, R>(alloc, *make, action, host, rng)
+        }
+        Job::Dbtool {
+            make,
+            backend: Backend::Twoskip,
+            action,
+            ..
+        } if can_do(action) => {
+            on_files::<H, Twoskip, TwoskipFiles, R>(alloc, *make, action, host, rng)
+        }
         _ => Note::Usage,
     }
 }

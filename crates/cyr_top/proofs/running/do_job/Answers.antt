@@ -1,5 +1,9 @@
 use Rattle.flat_db.proofs.KindLaws.{flat_laws}
+use Rattle.skip_kind.proofs.KindLaws.{skip_laws}
 use Rattle.cyr_top.proofs.running.do_job.Goals as goal
 
 pub on_files-requires-clause-laws : goal.on_files-requires-clause-laws
 on_files-requires-clause-laws g c = flat_laws
+
+pub on_files-2-requires-clause-laws : goal.on_files-2-requires-clause-laws
+on_files-2-requires-clause-laws g c = skip_laws
