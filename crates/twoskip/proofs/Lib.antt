@@ -1,0 +1,2 @@
+mod EmptyFile
+pub mod OpeningLemmas
