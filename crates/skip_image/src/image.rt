@@ -106,11 +106,12 @@ impl Image {
         self.bytes.as_slice()
     }
 
-    /// Makes room for more bytes and their marks.
+    /// Makes room for more bytes and their marks. The room that was there stays, whatever the answer.
     pub fn reserve(&mut self, more: u64) -> Result<(), NoMemory>
         requires { more ≤ image_limit }
         ensures room { OnOk result (more ≤ self.new.spare) }
         ensures bytes { self.new.bytes ≡ self.old.bytes }
+        ensures spare { self.old.spare ≤ self.new.spare }
     {
         let size = self.bytes.len() + more as usize;
         if self.bytes.reserve(more as usize).is_err() {

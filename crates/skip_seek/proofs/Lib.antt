@@ -1,11 +1,11 @@
-mod Answered
+pub mod Answered
 mod FromPlaces
 mod Hops
 mod Left
 mod LevelZero
 mod Measure
 mod Prefixes
-mod Reading
+pub mod Reading
 mod Top
 mod TwoLevels
 mod Walking

@@ -6,6 +6,8 @@
 //! - `calls.rt`: a transaction is begun, changed, committed and given up.
 #![tactic(auto)]
 
+mod place;
+mod room;
 mod session;
 
 pub use db_core::DbFault as TxnFault;
