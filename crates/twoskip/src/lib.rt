@@ -8,6 +8,8 @@
 
 mod opening;
 mod replacing;
+mod session;
 
-pub use opening::check_db;
+pub use opening::{check_db, open_db};
 pub use replacing::create;
+pub use session::Twoskip;
