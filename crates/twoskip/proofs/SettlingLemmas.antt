@@ -1,5 +1,5 @@
 -- A file that was read, before it is settled and after, and the disk of its opening.
-use Rattle.std.proofs.Common.{◌≡◌, ◌⊎◌, ⊎_elim, inl, inr, ℕ, ◌≤◌, ◌%◌, Bool, true, false, List, Option, Some, None, Result, Ok, Err, length, refl, sym, ap, ◌∙◌, subst, arith}
+use Rattle.std.proofs.Common.{◌≡◌, ⊎_elim, inl, inr, ℕ, ◌≤◌, ◌%◌, Bool, true, false, List, Option, Some, None, Result, Ok, Err, length, refl, sym, ap, ◌∙◌, subst, arith}
 use Rattle.std.proofs.lemmas.Bool.{eq-eqb}
 use Rattle.std.proofs.lemmas.Result.{IfErr-weaker}
 use Rattle.std.specs.Prelude.{IfErr, OnOk, IsSome}
@@ -14,7 +14,7 @@ use Rattle.base_devices.specs.Time.{goes_same, goes_then}
 use Rattle.base_devices.proofs.Moments.{each_then, leaves_told, stays_same, where_told}
 use Rattle.base_devices.proofs.FrameLemmas.{durable_stays, less_of_stays, less_of_sync, less_then}
 use Rattle.db_core.specs.Opening.{IsDamage, IsDeviceFault, OpensAs, SameMap}
-use Rattle.db_core.specs.Sessions.{DbState, at_rest}
+use Rattle.db_core.specs.Sessions.{at_rest}
 use Rattle.db_core.specs.declared.opening.OpenFault.{OpenFault}
 use Rattle.db_core.specs.declared.opening.OpenFault.TheVariants.{Absent, TooBig, NoMemory, DiskFault, Damaged}
 use Rattle.skip_form.specs.declared.header.Header.{Header}

@@ -10,7 +10,7 @@ read_image-requires-clause-size g c = told_length _ c.in_ok-size.size (λ main i
 pub returns-clause-checks : goal.returns-clause-checks
 returns-clause-checks g c =
     checks_as (g.D.Disk.state c.args.disk.now) c.in_ok-image.image.bytes c.in_ok-summary.summary.count c.in_ok-summary.summary.clean
-    (λ main is. c.in_ok-image.ensures.bytes main (c.file_size.ensures.stays.main.reads ∙ is)) c.in_ok-image.ensures.size c.in_ok-summary.ensures.found
+    (λ main is. c.in_ok-image.ensures.read main (c.file_size.ensures.stays.main.reads ∙ is)) c.in_ok-image.ensures.size c.in_ok-summary.ensures.found
 
 pub returns-clause-stays : goal.returns-clause-stays
 returns-clause-stays g c =
