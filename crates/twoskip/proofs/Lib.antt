@@ -1,3 +1,4 @@
 mod EmptyFile
 pub mod OpeningLemmas
 pub mod SettlingLemmas
+pub mod TieLemmas
