@@ -78,6 +78,8 @@ pub fn put_pair<D: Disk>(
     requires spot { HasSpot image.old.bytes key.now spot.now }
     requires reads { Shows (D.state disk.old) → Reads (D.state disk.old) image.old.bytes }
     ensures stores { OnOk result (Stores level key.now value.now image.old.bytes image.new.bytes) }
+    ensures length { OnOk result (length image.new.bytes ≡ length image.old.bytes
+        + record_size level (length key.now) (length value.now)) }
     ensures reads { OnOk result (Shows (D.state disk.new)
         → Reads (D.state disk.new) image.new.bytes) }
     ensures spare { image.old.spare
@@ -124,6 +126,7 @@ pub fn take_out<D: Disk>(
     requires reads { Shows (D.state disk.old) → Reads (D.state disk.old) image.old.bytes }
     ensures deletes { (key : List ℕ) → HasSpot image.old.bytes key spot.now
         → OnOk result (Deletes key image.old.bytes image.new.bytes) }
+    ensures length { OnOk result (length image.new.bytes ≡ length image.old.bytes + 24) }
     ensures reads { OnOk result (Shows (D.state disk.new)
         → Reads (D.state disk.new) image.new.bytes) }
     ensures spare { image.old.spare ≤ image.new.spare + 24 }

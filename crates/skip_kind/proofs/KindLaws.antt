@@ -16,7 +16,7 @@ use Rattle.skip_spec.proofs.OneAnswer.{first_flaw_one}
 use Rattle.skip_kind.specs.Kind.{skip_kind, skip_opens}
 
 -- keys that rise from above the empty one are not empty
-some_keys : (m : Map) → BeginsAbove [] m → IsOrderedMap m → All (λ p. p.0 ≢ []) m
+pub some_keys : (m : Map) → BeginsAbove [] m → IsOrderedMap m → All (λ p. p.0 ≢ []) m
 some_keys [] above rises = All-nil (λ p. p.0 ≢ [])
 some_keys (p ∷ m) above rises =
     let some : p.0 ≢ [] = λ none. nothing_below [] (subst (λ (k : List ℕ). IsBelow [] k) none above) in

@@ -1,1 +1,4 @@
+pub mod Changed
 pub mod Sound
+pub mod Tying
+pub mod Views

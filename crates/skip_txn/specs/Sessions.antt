@@ -1,7 +1,7 @@
 -- A session over a twoskip file: what a contract sees of it, its maps and loads, and its tie to the disk.
 use Rattle.std.proofs.Common.{refl}
 use Rattle.std.specs.Prelude.{◌≡◌, ℕ, ◌≤◌, Bool, true, false, List, [], length}
-use Rattle.base_bytes.specs.OrderedMap.{Map}
+use Rattle.base_bytes.specs.OrderedMap.{Map, IsDbMap}
 use Rattle.base_bytes.specs.declared.limits.TheConstants.{SKIP_LIMIT}
 use Rattle.base_devices.specs.CrashImages.{DiskState}
 use Rattle.db_core.specs.Sessions as db
@@ -65,12 +65,13 @@ session_of bytes Resting = resting bytes
 session_of bytes (Open committed has_changed) = within bytes committed has_changed
 session_of bytes Broken = broken
 
--- The bytes end with their log, and their live records are so many. Until something has changed they end at the
--- committed end, and from then on the header has DIRTY.
+-- The bytes end with their log, and their live records are so many. Under the committed end they list the map of a
+-- database too. Until something has changed both ends are one, and from then on the header has DIRTY.
 pub record IsSound (bytes : List ℕ) (count committed : ℕ) (has_changed : Bool) : Type 0 where
   pub live : IsLive bytes
   pub header : HasHeader bytes
   pub counted : count ≡ length (live_of bytes)
+  pub sound : IsDbMap (map_under bytes committed)
   pub unchanged : has_changed ≡ false → committed ≡ length bytes
   pub changed : has_changed ≡ true → HasDirty bytes
 

@@ -7,8 +7,10 @@
 #![tactic(auto)]
 
 mod place;
+mod reads;
 mod room;
 mod session;
+mod transaction;
 
 pub use db_core::DbFault as TxnFault;
 pub use session::Session;

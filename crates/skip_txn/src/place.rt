@@ -1,7 +1,8 @@
 // Where a key stands, from a search.
-ghost use Rattle.std.specs.Prelude.{◌≡◌, ◌<◌};
+ghost use Rattle.std.specs.Prelude.{◌≡◌, ◌<◌, ◌+◌, ◌^◌, List, ℕ, length};
+ghost use Rattle.skip_spec.specs.Place.{Place};
 ghost use Rattle.skip_change.specs.Changing.{HasSpot};
-ghost use Rattle.skip_seek.specs.Searches.{IsLive};
+ghost use Rattle.skip_seek.specs.Searches.{IsLive, live_of};
 ghost use Rattle.skip_txn.specs.Places.{IsFoundAt, IsNextOf, same_of};
 
 use base_bytes::Steps;
@@ -53,4 +54,16 @@ pub(crate) fn spot_of(image: &Image, key: &[u8]) -> Spot
     ensures { HasSpot image.now.bytes key.now result }
 {
     spot_counted::<Brand>(Blank::new(1), image, key)
+}
+
+/// How many live records there are once a pair is put at a spot.
+pub(crate) fn count_with(image: &Image, spot: &Spot, count: u64) -> u64
+    requires spot { (key : List ℕ) × HasSpot image.now.bytes key spot.now }
+    requires counted { count ≡ length (live_of image.now.bytes) }
+    requires few { count < 2 ^ 63 }
+    ensures { (key : List ℕ) (place : Place (live_of image.now.bytes) key)
+        → HasSpot image.now.bytes key spot.now
+        → result ≡ length place.front + 1 + length place.rest }
+{
+    if spot.same_at == 0 { count + 1 } else { count }
 }

@@ -1,0 +1,5 @@
+use Rattle.skip_txn.proofs.Views.{cost_of}
+use Rattle.skip_txn.proofs.session.Session.at_least.Goals as goal
+
+pub returns-clause-cost : goal.returns-clause-cost
+returns-clause-cost g c = cost_of c.self.inside.image.bytes c.self.inside.state.stage c.args.self.now c.self.view_is c.requires c.args.key.now _ _ _ c.at_least.ensures.cost
