@@ -62,6 +62,7 @@ pub fn commit<D: Disk>(disk: &mut D, image: &mut Image, count: u64) -> Result<()
     requires counted { count ≡ length (live_under image.old.bytes (length image.old.bytes)) }
     requires reads { Shows (D.state disk.old) → Reads (D.state disk.old) image.old.bytes }
     ensures commits { OnOk result (Commits image.old.bytes image.new.bytes) }
+    ensures length { OnOk result (length image.new.bytes ≡ length image.old.bytes + 24) }
     ensures reads { OnOk result (Shows (D.state disk.new)
         → Reads (D.state disk.new) image.new.bytes) }
     ensures tied { (base : List ℕ) (says : Contents)

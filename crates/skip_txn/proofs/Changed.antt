@@ -4,7 +4,9 @@ use Rattle.std.specs.Prelude.{is_some}
 use Rattle.std.proofs.lemmas.List.{length-map}
 use Rattle.base_bytes.specs.OrderedMap.{Map, IsDbMap, IsOrderedMap, put, without, value_at}
 use Rattle.base_bytes.specs.declared.change.Change.TheVariants.{Put, Del}
+use Rattle.db_core.specs.Refusals.{delete_refusal, size_refusal}
 use Rattle.db_core.specs.Sessions.{DbState, stored, deleted}
+use Rattle.db_core.specs.declared.fault.DbFault.TheVariants.{Broken}
 use Rattle.base_bytes.proofs.OrderedMaps.{without_absent}
 use Rattle.skip_form.specs.declared.header.Header.{Header}
 use Rattle.skip_form.specs.Spelling.{IsHeader, header_bytes}
@@ -24,7 +26,7 @@ use Rattle.skip_seek.proofs.Reading.{live_there}
 use Rattle.skip_change.specs.Changing.{HasSpot}
 use Rattle.skip_change.specs.declared.spot.Spot.{Spot}
 use Rattle.skip_change.proofs.OnePlace.{spot_at}
-use Rattle.skip_kind.specs.Kind.{skip_kind, change_size}
+use Rattle.skip_kind.specs.Kind.{skip_kind, change_size, plain_size}
 use Rattle.skip_txn.specs.Sessions.{IsSound, session_state, within}
 
 -- ---- places
@@ -185,3 +187,22 @@ module _ (b b' : List ℕ) (end : ℕ) (changed : Bool) (key : List ℕ) (spot :
         unchanged = λ is. absurd (cc is);
         changed = λ _. dirty;
       }
+
+-- what is owed by a delete
+pub delete_owes : (s : DbState) (key : List ℕ) → s.is_broken ≡ false → is_some (value_at s.seen key) ≡ true → delete_refusal skip_kind s key ≡ size_refusal skip_kind (s.load + change_size (Del key) + plain_size)
+delete_owes s key sound there =
+    ap (λ (x : Bool). cond x (Some Broken) (cond (is_some (value_at s.seen key)) (size_refusal skip_kind (s.load + change_size (Del key) + plain_size)) None)) sound
+    ∙ ap (λ (x : Bool). cond x (size_refusal skip_kind (s.load + change_size (Del key) + plain_size)) None) there
+
+pub delete_owes_nothing : (s : DbState) (key : List ℕ) → s.is_broken ≡ false → is_some (value_at s.seen key) ≡ false → delete_refusal skip_kind s key ≡ None
+delete_owes_nothing s key sound none =
+    ap (λ (x : Bool). cond x (Some Broken) (cond (is_some (value_at s.seen key)) (size_refusal skip_kind (s.load + change_size (Del key) + plain_size)) None)) sound
+    ∙ ap (λ (x : Bool). cond x (size_refusal skip_kind (s.load + change_size (Del key) + plain_size)) None) none
+
+-- there is a live record
+pub some_live : (b key : List ℕ) (spot : Spot) → HasSpot b key spot → spot.same_at ≢ 0 → 1 ≤ length (live_of b)
+some_live b key spot s some =
+    let t = live_there b (s.starts, s.es, s.live) in
+    let place = place_of (live_of b) key (live_rises b t.0 (live_of b) t.1) in
+    let one = dropped_one b key spot s some place in
+    omega (arith, parts_long (live_of b) key place, ap length one.1)

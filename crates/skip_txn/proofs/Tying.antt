@@ -4,25 +4,30 @@ use Rattle.std.specs.Prelude.{IfErr}
 use Rattle.base_bytes.specs.OrderedMap.{Map, IsDbMap}
 use Rattle.base_bytes.specs.declared.limits.TheConstants.{SKIP_LIMIT}
 use Rattle.base_devices.specs.Causes.{Rose, FaultHasCause}
-use Rattle.base_devices.specs.CrashImages.{Image, DiskState, IsMoment, LeavesOnly}
-use Rattle.db_core.specs.Calls.{MakesCall, OnDisk, OpensCommitted}
+use Rattle.base_devices.specs.CrashImages.{Image, DiskState, IsDurable, IsMoment, LeavesOnly, Reads, Shows}
+use Rattle.db_core.specs.Calls.{MakesCall, OnDisk, OpensCommitted, OpensEither}
 use Rattle.db_core.specs.Refusals.{Answers, IsAfterRefusal, IsDiskFault, MayAnswer}
-use Rattle.db_core.specs.Sessions.{DbState, over}
+use Rattle.db_core.specs.Sessions.{DbState, over, aborted}
 use Rattle.db_core.specs.declared.fault.DbFault.{DbFault}
 use Rattle.db_core.specs.declared.fault.DbFault.TheVariants.{DiskFault}
-use Rattle.skip_spec.specs.Chain.{pairs}
+use Rattle.skip_spec.specs.Chain.{Entry, pairs}
 use Rattle.skip_spec.specs.Live.{live_under, map_under}
 use Rattle.skip_spec.specs.Near.{Near}
 use Rattle.skip_spec.specs.Opens as opens
-use Rattle.skip_spec.specs.Opens.{Contents, Opens, with_dirty}
+use Rattle.skip_spec.specs.Opens.{Contents, Opens, Tidy, with_dirty}
+use Rattle.skip_spec.specs.Recovery.{Recovers}
 use Rattle.skip_spec.proofs.Kept.{reads_kept}
-use Rattle.skip_spec.proofs.Lives.{file_lives}
+use Rattle.skip_spec.proofs.Lives.{bytes_live, file_lives}
 use Rattle.skip_spec.proofs.Meanings.{opens_alike}
+use Rattle.skip_spec.proofs.SameLog.{gives_back, tidy_live}
 use Rattle.skip_spec.proofs.Unique.{reads_same}
-use Rattle.skip_lists.specs.Tie.{MayLeave, OnBytes, IsWithin, IsUpTo, StaysUpTo, LeavesEach, LeavesMap, TiedBy}
+use Rattle.skip_lists.proofs.Ties.{image_of, tied_to_base}
+use Rattle.skip_seek.specs.Searches.{map_of}
+use Rattle.skip_change.proofs.Headers.{only_read}
+use Rattle.skip_lists.specs.Tie.{AreKnown, MayLeave, OnBytes, IsWithin, IsUpTo, StaysUpTo, LeavesEach, LeavesMap, TiedBy}
 use Rattle.skip_kind.specs.Kind.{skip_kind, skip_opens}
 use Rattle.skip_kind.proofs.KindLaws.{opens_sound}
-use Rattle.skip_txn.specs.Sessions.{IsTied, SkipSession, broken, session_state}
+use Rattle.skip_txn.specs.Sessions.{IsTied, SkipSession, broken, resting, session_state, within}
 
 -- ---- the committed map
 
@@ -39,11 +44,11 @@ left_lives base b says false reads is = near_lives base b says reads (inl is)
 left_lives base b says true reads is = near_lives base b says reads is.0
 
 -- what may be left of a tidy base opens to its map
-left_opens : (base b : List ℕ) (says : Contents) (changed : Bool) → opens.Reads base says → opens.Tidy base says → MayLeave base changed b → Opens b (pairs says.chain)
+pub left_opens : (base b : List ℕ) (says : Contents) (changed : Bool) → opens.Reads base says → opens.Tidy base says → MayLeave base changed b → Opens b (pairs says.chain)
 left_opens base b says false reads tidy is = opens_alike base b (pairs says.chain) (record { says = says; reads = reads; map = refl; sound = inr tidy }) (inl is)
 left_opens base b says true reads tidy is = opens_alike base b (pairs says.chain) (record { says = says; reads = reads; map = refl; sound = inr tidy }) is.0
 
-within_limit : (b : List ℕ) (changed : Bool) → IsWithin SKIP_LIMIT b changed → length b ≤ SKIP_LIMIT
+pub within_limit : (b : List ℕ) (changed : Bool) → IsWithin SKIP_LIMIT b changed → length b ≤ SKIP_LIMIT
 within_limit b true is = omega (arith, is)
 within_limit b false is = omega (arith, is)
 
@@ -59,8 +64,12 @@ module _ (b : List ℕ) (end : ℕ) (changed : Bool) (d : DiskState) (t : IsTied
   tied_opens c left =
       let is = t.tied.left c left in
       let fits = within_limit b changed t.fits in
-      record { bytes = is.0; there = is.1; within = omega (arith, is.2.1, fits);
-        so = subst (λ (m : Map). Opens is.0 m) (sym committed_is) (left_opens t.base is.0 t.says changed t.tied.committed t.tied.tidy is.2.0) }
+      record {
+        bytes = is.0;
+        there = is.1;
+        within = omega (arith, is.2.1, fits);
+        so = subst (λ (m : Map). Opens is.0 m) (sym committed_is) (left_opens t.base is.0 t.says changed t.tied.committed t.tied.tidy is.2.0);
+      }
 
 -- ---- moments
 
@@ -73,10 +82,12 @@ holds c P one two =
 -- at each moment only files that open to the committed map were left
 pub keeps_committed : (s : DbState) (m : Map) (d e : DiskState) → s.committed ≡ m → LeavesMap m d e → LeavesEach (λ file. length file ≤ SKIP_LIMIT) d e → e.mark ≡ d.mark → OnDisk s (OpensCommitted skip_kind s) d e
 keeps_committed s m d e is maps sizes mark = record {
-  each = λ sound. record { each = λ c n left.
-      let one = maps.each c n left in
-      let both = holds c (λ file. Opens file m) one.1 (sizes.each c n left).1 in
-      (one.0, record { bytes = both.0; there = both.1; within = both.2; so = subst (λ (x : Map). Opens both.0 x) (sym is) both.3 }) };
+  each = λ sound. record {
+    each = λ c n left.
+        let one = maps.each c n left in
+        let both = holds c (λ file. Opens file m) one.1 (sizes.each c n left).1 in
+        (one.0, record { bytes = both.0; there = both.1; within = both.2; so = subst (λ (x : Map). Opens both.0 x) (sym is) both.3 });
+  };
   mark = mark;
 }
 
@@ -118,3 +129,69 @@ call_refused owed wanted Q s d fault moment may isnt leaves = record {
     same : (fault : DbFault) → ¬ IsDiskFault fault → IsAfterRefusal fault s s
     same DiskFault isnt = absurd (isnt tt)
     same fault isnt = refl
+
+-- a call that touched nothing
+pub call_idle : {T : Type 0} (owed : Option DbFault) (wanted : DbState) (Q : Image → Type 0) (s t : DbState) (d : DiskState) (x : T)
+    → IsMoment d → owed ≡ None → t ≡ wanted → (s.is_broken ≡ false → (c : Image) → d.leaves c → Q c)
+    → MakesCall skip_kind owed wanted Q (over d s) (over d t) (Ok x)
+call_idle owed wanted Q s t d x moment none is leaves =
+    call_done owed wanted Q s t d d x none is (record { each = λ sound. record { each = λ c n left. let now = moment.now c n left in (now.1, leaves sound c now.0) }; mark = refl }) refl refl
+
+-- at each moment only files that open to one of two maps were left
+pub keeps_either : (s : DbState) (m n : Map) (d e : DiskState) → s.committed ≡ m → s.seen ≡ n → LeavesEach (λ file. Opens file m ⊎ Opens file n) d e → LeavesEach (λ file. length file ≤ SKIP_LIMIT) d e → e.mark ≡ d.mark → OnDisk s (OpensEither skip_kind s) d e
+keeps_either s m n d e is are maps sizes mark = record {
+  each = λ sound. record {
+    each = λ c k left.
+        let one = maps.each c k left in
+        let both = holds c (λ file. Opens file m ⊎ Opens file n) one.1 (sizes.each c k left).1 in (
+          one.0,
+          elim both.3 [
+            | inl o ↦ inl (record { bytes = both.0; there = both.1; within = both.2; so = subst (λ (x : Map). Opens both.0 x) (sym is) o })
+            | inr o ↦ inr (record { bytes = both.0; there = both.1; within = both.2; so = subst (λ (x : Map). Opens both.0 x) (sym are) o })
+          ],
+        );
+  };
+  mark = mark;
+}
+
+-- ---- at rest
+
+-- a durable disk that reads a tidy file
+pub rests_tied : (b : List ℕ) (says : Contents) (d : DiskState) → opens.Reads b says → Tidy b says → IsDurable d → (Shows d → Reads d b) → length b ≤ SKIP_LIMIT → IsTied b (length b) false d
+rests_tied b says d reads tidy durable shows fits = record {
+  base = b;
+  says = says;
+  ends = sym tidy.ends;
+  tied = record {
+    committed = reads;
+    tidy = tidy;
+    own = refl;
+    known = subst (λ (es : List Entry). AreKnown says es) (sym (bytes_live b says.starts says.chain (tidy_live b says reads tidy))) (λ at m lt. m);
+    reads = shows;
+    left = λ c left. (b, only_read d b durable shows c left, (refl, omega arith));
+  };
+  fits = omega (arith, fits);
+}
+
+-- ---- what an abort gives back
+
+module _ (b new : List ℕ) (end : ℕ) (d : DiskState) (t : IsTied b end true d) (recovers : Recovers b new) where
+  abbrev says_now : Contents
+  says_now = record t.says { header = with_dirty t.says.header }
+
+  reads_now : opens.Reads b says_now
+  reads_now = reads_kept t.base b t.says t.tied.committed (image_of t.base b t.says d (tied_to_base t.base b t.says d t.tied))
+
+  pub given_back : opens.Reads new t.says × Tidy new t.says
+  given_back =
+      let back = gives_back t.base t.says t.tied.tidy in
+      (subst (λ (s : Contents). opens.Reads new s) back (recovers.reads says_now reads_now), subst (λ (s : Contents). Tidy new s) back (recovers.tidy says_now reads_now))
+
+  pub map_back : map_of new ≡ map_under b end
+  map_back = ap pairs (bytes_live new t.says.starts t.says.chain (tidy_live new t.says given_back.0 given_back.1)) ∙ sym (committed_is b end true d t)
+
+  pub end_back : length new ≡ end
+  end_back = given_back.1.ends ∙ t.ends
+
+  pub aborted_state : session_state (resting new) ≡ aborted (session_state (within b end true))
+  aborted_state = cc (map_back, end_back)

@@ -83,7 +83,16 @@ impl Session {
         let count = count_with(&self.image, &spot, self.state.count);
         let level = level_of(word);
         let image = &mut self.image;
-        match put_pair(disk, image, committed, has_changed, &spot, level, key, value) {
+        match put_pair(
+            disk,
+            image,
+            committed,
+            has_changed,
+            &spot,
+            level,
+            key,
+            value,
+        ) {
             Ok(()) => {
                 self.state = SessionState {
                     count,

@@ -11,6 +11,7 @@ use Rattle.skip_spec.proofs.Lives.{bytes_live}
 use Rattle.skip_lists.proofs.Ties.{then_each, then_up_to}
 use Rattle.skip_spec.proofs.Meanings.{opens_alike}
 use Rattle.skip_change.specs.Headers.{IsCommittedAs}
+use Rattle.skip_change.proofs.Headers.{length-headed}
 use Rattle.skip_change.proofs.Ended.{committed_opens, committed_tied, committed_commits, headers_there, old_or_new}
 use Rattle.skip_change.proofs.ending.commit.Goals as goal
 
@@ -136,3 +137,8 @@ returns-clause-long g c = λ most le.
     let on = g.met.D.Disk.rest_goes_on in
     let mid : length c.end_log.new.image.bytes ≤ most = omega (arith, le, c.end_log.ensures.length) in
     then_up_to most _ _ _ (on _ _ c.end_log.ensures.rest) (on _ _ c.put_header.ensures.rest) c.end_log.ensures.mark (c.end_log.ensures.long most mid) (c.put_header.ensures.long most mid)
+
+pub returns-clause-length : goal.returns-clause-length
+returns-clause-length g c =
+    let least = c.requires.live.2.listed.log.least in
+    ap length c.put_header.ensures.bytes ∙ length-headed c.end_log.new.image.bytes _ (omega (arith, least, c.end_log.ensures.length)) ∙ c.end_log.ensures.length

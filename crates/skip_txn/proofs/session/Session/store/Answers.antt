@@ -38,9 +38,9 @@ returns-in_err-make_put_room-clause-change g c =
     (subst (λ (s : SkipSession). MakesChange {T = Unit {0}} skip_kind (Put w c.args.key.now c.args.value.now) (over d (session_state c.args.self.now)) (over d (session_state s)) (Err fault)) (sym same)
     (subst (λ (s : SkipSession). MakesChange {T = Unit {0}} skip_kind (Put w c.args.key.now c.args.value.now) (over d (session_state s)) (over d (session_state s)) (Err fault)) v
     (call_refused (put_refusal m w c.args.key.now c.args.value.now) (stored skip_kind (session_state (within m c.in-Open.committed c.in-Open.has_changed)) w c.args.key.now c.args.value.now) (OpensCommitted skip_kind (session_state (within m c.in-Open.committed c.in-Open.has_changed)))
-        (session_state (within m c.in-Open.committed c.in-Open.has_changed)) d fault (g.met.D.Disk.is_moment c.args.disk.now)
-        (subst (λ (b : List ℕ). MayAnswer (put_refusal b w c.args.key.now c.args.value.now) fault) (sym c.make_put_room.ensures.bytes) c.in_err-make_put_room.ensures.refused) c.in_err-make_put_room.ensures.no_fault
-        (λ sound i left. tied_opens m c.in-Open.committed c.in-Open.has_changed d t i left))))
+    (session_state (within m c.in-Open.committed c.in-Open.has_changed)) d fault (g.met.D.Disk.is_moment c.args.disk.now)
+    (subst (λ (b : List ℕ). MayAnswer (put_refusal b w c.args.key.now c.args.value.now) fault) (sym c.make_put_room.ensures.bytes) c.in_err-make_put_room.ensures.refused) c.in_err-make_put_room.ensures.no_fault
+    (λ sound i left. tied_opens m c.in-Open.committed c.in-Open.has_changed d t i left))))
 
 pub count_with-count-requires-clause-few : goal.count_with-count-requires-clause-few
 count_with-count-requires-clause-few g c =
@@ -63,9 +63,10 @@ invariant_of-self-in-Ok g c =
     let owed : put_refusal m w c.args.key.now c.args.value.now ≡ None = subst (λ (b : List ℕ). put_refusal b w c.args.key.now c.args.value.now ≡ None) (sym c.make_put_room.ensures.bytes) c.in_ok-make_put_room.ensures.fits in
     let stores = subst (λ (l : ℕ). Stores l c.args.key.now c.args.value.now m n) c.level_of-level.ensures c.in-Ok.ensures.stores in
     let now = c.in-Ok.ensures.tied t.base t.says t.ends t.tied in
-    let kept = committed_is n c.in-Open.committed true e (record { base = t.base; says = t.says; ends = t.ends; tied = now; fits = omega (arith, roomy.fits, c.in-Ok.ensures.length, level) }) ∙ sym (committed_is m c.in-Open.committed c.in-Open.has_changed d t) in
-    (stored_sound m n c.in-Open.committed c.in-Open.has_changed w c.args.key.now c.args.value.now sound.live stores kept c.self.inside.state.count c.count_with-count.result sound (λ place. c.count_with-count.ensures c.args.key.now place c.spot_of-spot.ensures),
-    omega (arith, roomy.spare, c.put_pair.ensures.spare, level))
+    let kept = committed_is n c.in-Open.committed true e (record { base = t.base; says = t.says; ends = t.ends; tied = now; fits = omega (arith, roomy.fits, c.in-Ok.ensures.length, level) }) ∙ sym (committed_is m c.in-Open.committed c.in-Open.has_changed d t) in (
+      stored_sound m n c.in-Open.committed c.in-Open.has_changed w c.args.key.now c.args.value.now sound.live stores kept c.self.inside.state.count c.count_with-count.result sound (λ place. c.count_with-count.ensures c.args.key.now place c.spot_of-spot.ensures),
+      omega (arith, roomy.spare, c.put_pair.ensures.spare, level),
+    )
 
 pub returns-in-Ok-clause-change : goal.returns-in-Ok-clause-change
 returns-in-Ok-clause-change g c =
@@ -87,9 +88,9 @@ returns-in-Ok-clause-change g c =
     let sizes = c.put_pair.ensures.long SKIP_LIMIT (omega (arith, roomy.fits, level)) (up_to_limit m c.in-Open.committed c.in-Open.has_changed d t) in
     subst (λ (s : SkipSession). MakesChange {T = Unit {0}} skip_kind (Put w c.args.key.now c.args.value.now) (over d (session_state s)) (over e (session_state (within n c.in-Open.committed true))) (Ok tt)) v
     (call_done (put_refusal m w c.args.key.now c.args.value.now) (stored skip_kind (session_state (within m c.in-Open.committed c.in-Open.has_changed)) w c.args.key.now c.args.value.now) (OpensCommitted skip_kind (session_state (within m c.in-Open.committed c.in-Open.has_changed)))
-        (session_state (within m c.in-Open.committed c.in-Open.has_changed)) (session_state (within n c.in-Open.committed true)) d e _ owed (stored_state m n c.in-Open.committed c.in-Open.has_changed w c.args.key.now c.args.value.now sound.live stores kept long)
-        (keeps_committed (session_state (within m c.in-Open.committed c.in-Open.has_changed)) (pairs t.says.chain) d e (committed_is m c.in-Open.committed c.in-Open.has_changed d t) (c.put_pair.ensures.moments t.base t.says t.ends t.tied) sizes.1 c.put_pair.ensures.mark)
-        c.put_pair.ensures.publishes c.in-Ok.ensures.cause.kept)
+    (session_state (within m c.in-Open.committed c.in-Open.has_changed)) (session_state (within n c.in-Open.committed true)) d e _ owed (stored_state m n c.in-Open.committed c.in-Open.has_changed w c.args.key.now c.args.value.now sound.live stores kept long)
+    (keeps_committed (session_state (within m c.in-Open.committed c.in-Open.has_changed)) (pairs t.says.chain) d e (committed_is m c.in-Open.committed c.in-Open.has_changed d t) (c.put_pair.ensures.moments t.base t.says t.ends t.tied) sizes.1 c.put_pair.ensures.mark)
+    c.put_pair.ensures.publishes c.in-Ok.ensures.cause.kept)
 
 pub returns-in-Ok-clause-tied : goal.returns-in-Ok-clause-tied
 returns-in-Ok-clause-tied g c =
@@ -137,7 +138,7 @@ returns-in-Ok-clause-written g c =
     let owed : put_refusal m w c.args.key.now c.args.value.now ≡ None = subst (λ (b : List ℕ). put_refusal b w c.args.key.now c.args.value.now ≡ None) (sym c.make_put_room.ensures.bytes) c.in_ok-make_put_room.ensures.fits in
     subst (λ (s : SkipSession). StoreWrites (bytes_of s) w c.args.key.now c.args.value.now d.written e.written) v
     (λ place. subst (λ (l : ℕ). e.written ≤ d.written + store_writes (record_size l (length c.args.key.now) (length c.args.value.now)) l (height place.dropped)) c.level_of-level.ensures
-        (c.put_pair.ensures.written (spot_of_place m c.args.key.now c.spot_of-spot.result c.spot_of-spot.ensures place)))
+    (c.put_pair.ensures.written (spot_of_place m c.args.key.now c.spot_of-spot.result c.spot_of-spot.ensures place)))
 
 pub returns-in-Err-clause-change : goal.returns-in-Err-clause-change
 returns-in-Err-clause-change g c =
@@ -155,9 +156,9 @@ returns-in-Err-clause-change g c =
     let sizes = c.put_pair.ensures.long SKIP_LIMIT (omega (arith, roomy.fits, level)) (up_to_limit m c.in-Open.committed c.in-Open.has_changed d t) in
     subst (λ (s : SkipSession). MakesChange {T = Unit {0}} skip_kind (Put w c.args.key.now c.args.value.now) (over d (session_state s)) (over e (session_state broken)) (Err DiskFault)) v
     (call_failed (put_refusal m w c.args.key.now c.args.value.now) (stored skip_kind (session_state (within m c.in-Open.committed c.in-Open.has_changed)) w c.args.key.now c.args.value.now) (OpensCommitted skip_kind (session_state (within m c.in-Open.committed c.in-Open.has_changed)))
-        (session_state (within m c.in-Open.committed c.in-Open.has_changed)) d e owed
-        (keeps_committed (session_state (within m c.in-Open.committed c.in-Open.has_changed)) (pairs t.says.chain) d e (committed_is m c.in-Open.committed c.in-Open.has_changed d t) (c.put_pair.ensures.moments t.base t.says t.ends t.tied) sizes.1 c.put_pair.ensures.mark)
-        c.put_pair.ensures.publishes c.put_pair.ensures.cause.later c.in-Err.ensures.cause.failed)
+    (session_state (within m c.in-Open.committed c.in-Open.has_changed)) d e owed
+    (keeps_committed (session_state (within m c.in-Open.committed c.in-Open.has_changed)) (pairs t.says.chain) d e (committed_is m c.in-Open.committed c.in-Open.has_changed d t) (c.put_pair.ensures.moments t.base t.says t.ends t.tied) sizes.1 c.put_pair.ensures.mark)
+    c.put_pair.ensures.publishes c.put_pair.ensures.cause.later c.in-Err.ensures.cause.failed)
 
 pub returns-in-Err-clause-written : goal.returns-in-Err-clause-written
 returns-in-Err-clause-written g c =
@@ -174,4 +175,4 @@ returns-in-Err-clause-written g c =
     let owed : put_refusal m w c.args.key.now c.args.value.now ≡ None = subst (λ (b : List ℕ). put_refusal b w c.args.key.now c.args.value.now ≡ None) (sym c.make_put_room.ensures.bytes) c.in_ok-make_put_room.ensures.fits in
     subst (λ (s : SkipSession). StoreWrites (bytes_of s) w c.args.key.now c.args.value.now d.written e.written) v
     (λ place. subst (λ (l : ℕ). e.written ≤ d.written + store_writes (record_size l (length c.args.key.now) (length c.args.value.now)) l (height place.dropped)) c.level_of-level.ensures
-        (c.put_pair.ensures.written (spot_of_place m c.args.key.now c.spot_of-spot.result c.spot_of-spot.ensures place)))
+    (c.put_pair.ensures.written (spot_of_place m c.args.key.now c.spot_of-spot.result c.spot_of-spot.ensures place)))
