@@ -1,4 +1,3 @@
 mod EmptyFile
 pub mod OpeningLemmas
 pub mod SettlingLemmas
-pub mod TieLemmas

@@ -7,6 +7,7 @@
 #![tactic(auto)]
 
 mod opening;
+mod reads;
 mod replacing;
 mod session;
 

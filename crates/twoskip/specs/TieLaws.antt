@@ -1,5 +1,5 @@
 -- The tie of a session to its disk: on what it rests, and what a crash leaves.
-use Rattle.std.proofs.Common.{◌≡◌, inl, inr, ℕ, ◌≤◌, Bool, true, false, List, length, refl, sym, ap, ◌∙◌, subst, arith}
+use Rattle.std.proofs.Common.{◌≡◌, inl, inr, ℕ, ◌≤◌, Bool, true, false, List, length, refl, sym, ap, ◌∙◌, subst, le_trans, le-add_right}
 use Rattle.std.specs.Prelude.{IsSome}
 use Rattle.base_bytes.specs.declared.limits.TheConstants.{SKIP_LIMIT}
 use Rattle.base_devices.specs.CrashImages.{Image, DiskState, LeavesSame}
@@ -45,8 +45,8 @@ may_near base false file is = inl is
 may_near base true file left = left.0
 
 short : (bytes : List ℕ) (has_changed : Bool) → IsWithin SKIP_LIMIT bytes has_changed → length bytes ≤ SKIP_LIMIT
-short bytes false fits = omega (arith, fits)
-short bytes true fits = omega (arith, fits)
+short bytes false fits = le_trans (le-add_right (length bytes) 0) fits
+short bytes true fits = le_trans (le-add_right (length bytes) 24) fits
 
 -- under the committed end an image has the live records of its base
 base_lives : (base : List ℕ) (says : Contents) (bytes : List ℕ) → Reads base says → Near base bytes → live_under bytes says.header.current_size ≡ says.chain
@@ -62,11 +62,11 @@ tie_opens bytes committed has_changed disk tie c left =
     let file = tie.tied.left c left in
     let opens : Opens tie.base (pairs tie.says.chain) = record { says = tie.says; reads = tie.tied.committed; map = refl; sound = inr tie.tied.tidy } in
     let lives : map_under bytes committed ≡ pairs tie.says.chain =
-        ap (map_under bytes) (sym tie.ends) ∙ ap pairs (base_lives tie.base tie.says bytes tie.tied.committed (may_near tie.base has_changed bytes tie.tied.own)) in
+    ap (map_under bytes) (sym tie.ends) ∙ ap pairs (base_lives tie.base tie.says bytes tie.tied.committed (may_near tie.base has_changed bytes tie.tied.own)) in
     record {
       bytes = file.0;
       there = file.1;
-      within = omega (arith, file.2.1, short bytes has_changed tie.fits);
+      within = le_trans file.2.1 (short bytes has_changed tie.fits);
       so = subst (Opens file.0) (sym lives) (opens_alike tie.base file.0 (pairs tie.says.chain) opens (may_near tie.base has_changed file.0 file.2.0));
     }
 
