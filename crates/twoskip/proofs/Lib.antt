@@ -1,0 +1,3 @@
+mod EmptyFile
+pub mod OpeningLemmas
+pub mod SettlingLemmas

@@ -1,0 +1,16 @@
+//! Databases kept as twoskip files, which are changed in place.
+//!
+//! Read in this order:
+//!   replacing  an empty file is made
+//!   opening    a file is read, verified, and repaired where a stop left it dirty
+//!   session    a session over the file
+#![tactic(auto)]
+
+mod opening;
+mod reads;
+mod replacing;
+mod session;
+
+pub use opening::{check_db, open_db};
+pub use replacing::create;
+pub use session::Twoskip;

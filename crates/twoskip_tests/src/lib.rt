@@ -1,0 +1,5 @@
+//! Tests of twoskip databases over a disk in memory.
+#![tactic(auto)]
+
+#[cfg(test)]
+mod tests;

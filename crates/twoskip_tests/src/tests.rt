@@ -1,0 +1,3 @@
+// Twoskip files over a disk in memory: made, looked through, and opened after stops and failures.
+mod files;
+mod opening;
