@@ -13,7 +13,7 @@ use Rattle.base_devices.specs.Frames.{MayLeaveLess, StaysAs}
 use Rattle.base_devices.specs.Time.{goes_same, goes_then}
 use Rattle.base_devices.proofs.Moments.{each_then, leaves_told, stays_same, where_told}
 use Rattle.base_devices.proofs.FrameLemmas.{durable_stays, less_of_stays, less_of_sync, less_then}
-use Rattle.db_core.specs.Opening.{IsDamage, IsDeviceFault, OpensAs, SameMap}
+use Rattle.db_core.specs.Opening.{IsDamage, IsDeviceFault, OpensAs, OpensDisk, SameMap}
 use Rattle.db_core.specs.Sessions.{at_rest}
 use Rattle.db_core.specs.declared.opening.OpenFault.{OpenFault}
 use Rattle.db_core.specs.declared.opening.OpenFault.TheVariants.{Absent, TooBig, NoMemory, DiskFault, Damaged}
@@ -35,7 +35,7 @@ use Rattle.skip_recover.specs.Places.{RepairsInPlace}
 use Rattle.skip_kind.specs.Kind.{skip_kind}
 use Rattle.skip_kind.proofs.KindLaws.{opens_sound}
 use Rattle.skip_txn.specs.Sessions.{SkipSession, resting, session_state, Tied}
-use Rattle.twoskip.specs.Opening.{IsRead, IsSettled, OpensInPlace, SettlesDisk, WhereSettled}
+use Rattle.twoskip.specs.Opening.{IsRead, IsSettled, SettlesDisk, WhereSettled}
 use Rattle.twoskip.proofs.OpeningLemmas.{verified_opens}
 
 -- ---- a tidy file that a crash leaves alone
@@ -170,8 +170,8 @@ device_is_no_damage NoMemory device damage = damage
 device_is_no_damage DiskFault device damage = damage
 
 -- it ends before the file is settled
-pub fails_less : {B : Type 0} (old new : DiskState) (result : Result B OpenFault) (fault : OpenFault) → result ≡ Err fault → MayLeaveLess old new → (IsDamage fault → IsDurable new) → OpensInPlace skip_kind old new result
-fails_less {B = B} old new result fault is less durable = subst (OpensInPlace {B = B} skip_kind old new) (sym is) (record {
+pub fails_less : {B : Type 0} (old new : DiskState) (result : Result B OpenFault) (fault : OpenFault) → result ≡ Err fault → MayLeaveLess old new → (IsDamage fault → IsDurable new) → OpensDisk skip_kind old new result
+fails_less {B = B} old new result fault is less durable = subst (OpensDisk {B = B} skip_kind old new) (sym is) (record {
   each = record { each = λ c n left. let pair = less.each.each c n left in (pair.0, inl pair.1) };
   mark = less.mark;
   publishes = less.publishes;
@@ -191,7 +191,7 @@ module _ (old mid new : DiskState) (file : List ℕ) (count : ℕ) (clean : Bool
   pub reads_same : WhereSettled skip_kind old (new.reads ≡ old.reads)
   reads_same main reads settled = (still main reads settled).1 ∙ same
 
-  pub opens_in_place : {B : Type 0} (result : Result B OpenFault) → GoesOn old mid → GoesOn mid new → IsMoment new → OnOk result (IsDurable new) → IfErr result IsDeviceFault → OpensInPlace skip_kind old new result
+  pub opens_in_place : {B : Type 0} (result : Result B OpenFault) → GoesOn old mid → GoesOn mid new → IsMoment new → OnOk result (IsDurable new) → IfErr result IsDeviceFault → OpensDisk skip_kind old new result
   opens_in_place {B = B} result first second moment durable fault = record {
     each = where_told old new _ (goes_then old mid new moment first second) moment (λ told. each_then old mid new _ first second
         (record { each = λ c n left. let pair = less.each.each c n left in (pair.0, inl pair.1) })

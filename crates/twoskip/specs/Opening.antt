@@ -40,15 +40,3 @@ pub record SettlesDisk (file : List ℕ) (clean : Bool) (before now : DiskState)
 -- where the disk reads a file, it is one that opening does not write
 abbrev pub WhereSettled : DbKind → DiskState → Type 0 → Type 0
 WhereSettled kind disk P = WhereRead disk (λ main. ((file : List ℕ) → main ≡ Some file → kind.is_settled file) → P)
-
--- Opening makes sure of the file that it reads, and repairs it where it is not settled.
-pub record OpensInPlace {B : Type 0} (kind : DbKind) (old new : DiskState) (result : Result B OpenFault) : Type 0 where
-  pub each : LeavesOnly old new (λ c n. (n ≡ old.mark) × (old.leaves c ⊎ SameMap kind old.reads c))
-  pub mark : new.mark ≡ old.mark
-  pub publishes : new.publishes ≡ old.publishes
-  -- a settled file is only synced and read, and so is one that does not open
-  pub settled : WhereSettled kind old (MayLeaveLess old new)
-  pub unopened : IfErr result (λ fault. IsDeviceFault fault ⊎ MayLeaveLess old new)
-  -- what was looked at is on the disk
-  pub durable : OnOk result (IsDurable new)
-  pub synced : IfErr result (λ fault. IsDamage fault → IsDurable new)

@@ -5,11 +5,11 @@ ghost use Rattle.base_devices.specs.Causes.{FaultHasCause};
 ghost use Rattle.base_devices.specs.CrashImages.{Shows, WhereRead};
 ghost use Rattle.base_devices.specs.DiskCalls.{HasLength};
 ghost use Rattle.base_devices.specs.Frames.{StaysAs};
-ghost use Rattle.db_core.specs.Opening.{ChecksAs, IsDamage, IsDeviceFault, IsOpenRefusal, OpensAs};
+ghost use Rattle.db_core.specs.Opening.{ChecksAs, IsDamage, IsDeviceFault, IsOpenRefusal, OpensAs, OpensDisk};
 ghost use Rattle.skip_image.specs.Verifying.{IsVerified};
 ghost use Rattle.skip_kind.specs.Kind.{skip_kind};
 ghost use Rattle.skip_txn.specs.Sessions.{Tied, session_state};
-ghost use Rattle.twoskip.specs.Opening.{IsRead, IsSettled, OpensInPlace, SettlesDisk, WhereSettled};
+ghost use Rattle.twoskip.specs.Opening.{IsRead, IsSettled, SettlesDisk, WhereSettled};
 
 use crate::session::Twoskip;
 use base_bytes::{Damage, SKIP_LIMIT};
@@ -97,7 +97,7 @@ fn settle<D: Disk>(image: &mut Image, disk: &mut D, clean: bool) -> Result<(), O
 /// known.
 pub fn open_db<D: Disk>(alloc: Global, disk: &mut D) -> Result<Twoskip, OpenFault>
     ensures opens { OpensAs skip_kind session_state (D.state disk.old) result }
-    ensures disk { OpensInPlace skip_kind (D.state disk.old) (D.state disk.new) result }
+    ensures disk { OpensDisk skip_kind (D.state disk.old) (D.state disk.new) result }
     ensures reads { OnOk result (WhereSettled skip_kind (D.state disk.old)
         ((D.state disk.new).reads ≡ (D.state disk.old).reads)) }
     ensures cause { FaultHasCause IsDeviceFault (D.state disk.old).faults (D.state disk.new).faults

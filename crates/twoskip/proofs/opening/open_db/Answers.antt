@@ -1,10 +1,10 @@
 use Rattle.std.proofs.Common.{◌∙◌, Err, sym, subst}
 use Rattle.std.proofs.lemmas.Result.{err_from_is_err_and}
 use Rattle.base_devices.proofs.Lengths.{told_length, told_there}
-use Rattle.db_core.specs.Opening.{IsDeviceFault}
+use Rattle.db_core.specs.Opening.{IsDeviceFault, OpensDisk}
 use Rattle.skip_image.specs.Image.{ImageView}
 use Rattle.skip_kind.specs.Kind.{skip_kind}
-use Rattle.twoskip.specs.Opening.{IsRead, OpensInPlace}
+use Rattle.twoskip.specs.Opening.{IsRead}
 use Rattle.twoskip.proofs.SettlingLemmas.{fails_less, made_sure, opens_as, opens_in_place, read_is, reads_same}
 use Rattle.twoskip.proofs.opening.open_db.Goals as goal
 
@@ -48,7 +48,7 @@ returns-in_err-settle-clause-disk g c =
     (read_is (state c.read_image.new.disk) c.in_ok-image.image.bytes _ _ c.in_ok-image.ensures.bytes c.in_ok-image.ensures.size c.in_ok-summary.ensures.found
     (λ main is. c.in_ok-image.ensures.read main (sym c.read_image.ensures.stays.main.reads ∙ is)) sure.durable) in
     let exit = err_from_is_err_and c.from_residual-in_err-settle.result c.from_residual-in_err-settle.ensures.1 in
-    subst (OpensInPlace skip_kind (state c.args.disk.now) (state c.settle.new.disk)) (sym exit.1)
+    subst (OpensDisk skip_kind (state c.args.disk.now) (state c.settle.new.disk)) (sym exit.1)
     (opens_in_place (state c.args.disk.now) (state c.read_image.new.disk) (state c.settle.new.disk) _ _ _ read sure.less sure.reads c.in_err-settle.ensures.disk (Err exit.0)
     sure.time (on _ _ c.settle.ensures.rest) (moment _) tt (subst IsDeviceFault (sym exit.2) c.in_err-settle.ensures.fault))
 
