@@ -5,6 +5,7 @@ pub mod Laws
 pub mod Lines
 pub mod Opening
 pub mod Places
+pub mod Plain
 pub mod Reading
 pub mod Sessions
 pub mod Writing

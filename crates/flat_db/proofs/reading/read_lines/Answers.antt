@@ -1,11 +1,13 @@
 use Rattle.std.proofs.Common.{◌≡◌, ◌∷◌, ◌++◌, [], ℕ, List, length, drop, sym, ◌∙◌, ap, subst, arith}
 use Rattle.std.specs.List.{All}
-use Rattle.std.proofs.lemmas.List.{map_push, length-drop}
+use Rattle.std.proofs.lemmas.List.{map_push, length-drop, drop_all, append-nil}
 use Rattle.std.proofs.lemmas.Grind.{common_steps}
 use Rattle.base_bytes.specs.OrderedMap.{Map}
-use Rattle.flat_db.specs.FlatText.{HasLine, SaysPairs}
+use Rattle.flat_db.specs.FlatText.{HasLine, SaysPairs, canonical_text}
 use Rattle.flat_db.specs.Entries.{pair_of, pairs_of, EndsBy}
 use Rattle.flat_db.specs.declared.pairs.Entry.{Entry}
+use Rattle.flat_db.proofs.FieldLemmas.{first_of_both, second_of_both}
+use Rattle.flat_db.proofs.PlainLemmas.{plain_later, written_more}
 use Rattle.flat_db.proofs.LineLemmas.{pairs_below, ends_later, says_more, all_push, drop_later}
 use Rattle.flat_db.proofs.reading.read_lines.Goals as goal
 
@@ -29,7 +31,7 @@ returns-in-Err-clause-fault c =
 pub loop-at-preserved : goal.loop-at-preserved
 loop-at-preserved c =
     let old = c.loop-at.text in
-    let text = c.line_at.new.text in
+    let text = c.next_line.new.text in
     let entries = c.loop-at.entries.items in
     let line = c.in-Ok.line in
     let inv = c.loop-at.invariant in
@@ -47,4 +49,16 @@ loop-at-preserved c =
           (subst (λ (l : List ℕ). HasLine l pair.0 (drop line.next c.args.text.now)) inv.rest (subst (λ (l : List ℕ). HasLine (drop c.loop-at.at old) pair.0 l) (drop_later c.loop-at.at line.next old c.args.text.now (omega (arith, next.0)) inv.rest) pair.1))
           pair.2);
       ends = subst (λ (l : List Entry). All (EndsBy line.next) l) (sym items) (all_push line.next entries line.entry (ends_later c.loop-at.at line.next entries (omega (arith, next.0)) inv.ends) c.in-Ok.ensures.ends);
+      known = omega (arith, long, c.plain_end-known.ensures.within);
+      plain = plain_later old text c.loop-at.at line.next c.plain_end-known.result (omega (arith, next.0)) c.in-Ok.ensures.after c.plain_end-known.ensures.plain;
+      written = λ is.
+          let plain = second_of_both c.loop-at.is_plain line.is_plain is in
+          subst (λ (l : List Entry). text ≡ canonical_text (pairs_of text l) ++ drop line.next text) (sym items)
+          (written_more old text c.loop-at.at line.next entries line.entry (c.in-Ok.ensures.same plain) (inv.written (first_of_both c.loop-at.is_plain line.is_plain is)) (c.in-Ok.ensures.written plain).written);
     }
+
+pub returns-clause-plain : goal.returns-clause-plain
+returns-clause-plain c is =
+    let text = c.loop-at.text in
+    let whole = canonical_text (pairs_of text c.loop-at.entries.items) in
+    sym (c.loop-at.invariant.written is ∙ ap (λ (l : List ℕ). whole ++ l) (drop_all c.loop-at.at text (omega arith)) ∙ append-nil whole)
