@@ -1,15 +1,15 @@
 -- Fields and lines that are written as they stand.
-use Rattle.std.proofs.Common.{◌≡◌, ◌≢◌, ℕ, zero, suc, ◌+◌, ◌-◌, ◌<◌, ◌≤◌, true, false, Bool, List, [], ◌∷◌, ◌++◌, length, get_or, take, drop, refl, sym, ◌∙◌, ap, subst, append_assoc, arith, length-append}
-use Rattle.std.specs.Prelude.{◌==◌, ◌||◌, flat_map}
+use Rattle.std.proofs.Common.{◌≡◌, ◌≢◌, ℕ, zero, suc, ◌+◌, ◌-◌, ◌<◌, ◌≤◌, true, Bool, List, [], ◌∷◌, ◌++◌, length, get_or, take, drop, refl, sym, ◌∙◌, ap, subst, append_assoc, arith}
+use Rattle.std.specs.Prelude.{flat_map}
 use Rattle.std.proofs.lemmas.List.{take-append-drop, drop_more, drop-drop, length-drop, length-take-le, get_or-drop, get_or-take, map_push, append-nil}
 use Rattle.base_bytes.specs.Escapes.{escaped_byte, escaped}
 use Rattle.memchr.specs.Find.{Nowhere, Passes, is_byte2, is_byte3}
 use Rattle.flat_db.specs.FlatText.{pair_line, canonical_text, HasLine, SaysPair}
-use Rattle.flat_db.specs.Entries.{part_of, pair_of, pairs_of, EndsBy}
+use Rattle.flat_db.specs.Entries.{part_of, pair_of, pairs_of}
 use Rattle.flat_db.specs.Plain.{IsPlain, HasWritten, Stands}
 use Rattle.flat_db.specs.declared.pairs.Entry.{Entry}
 use Rattle.flat_db.proofs.Canonical.{line_then, has_line, says_line}
-use Rattle.flat_db.proofs.Sizes.{line_length, text_then}
+use Rattle.flat_db.proofs.Sizes.{text_then}
 
 -- a byte that is none of those that are escaped
 byte_stands : (byte : ℕ) → (is_byte3 255 0 13 byte ≡ true → ⊥) → (is_byte2 9 10 byte ≡ true → ⊥) → escaped_byte byte ≡ byte ∷ []

@@ -1,4 +1,5 @@
 pub mod Entries
+pub mod Finding
 pub mod FlatText
 pub mod Kept
 pub mod Laws

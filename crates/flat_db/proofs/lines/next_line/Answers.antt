@@ -1,4 +1,4 @@
-use Rattle.std.proofs.Common.{◌≡◌, ◌+◌, ◌≤◌, length, drop, ap, arith, length-append}
+use Rattle.std.proofs.Common.{length, drop, ap, arith, length-append}
 use Rattle.std.proofs.lemmas.List.{length-drop}
 use Rattle.flat_db.specs.FlatText.{pair_line}
 use Rattle.flat_db.specs.Entries.{part_of}

@@ -1,4 +1,4 @@
-use Rattle.std.proofs.Common.{◌≡◌, ◌-◌, length, ap, arith}
+use Rattle.std.proofs.Common.{◌-◌, length, ap, arith}
 use Rattle.std.proofs.lemmas.List.{length-drop, take_rest}
 use Rattle.memchr.specs.Find.{is_byte3}
 use Rattle.flat_db.proofs.PlainLemmas.{nowhere_in}

@@ -1,4 +1,4 @@
-use Rattle.std.proofs.Common.{◌≡◌, ◌+◌, ◌-◌, ◌<◌, ◌≤◌, ℕ, length, get_or, take, drop, arith}
+use Rattle.std.proofs.Common.{◌+◌, ◌-◌, drop, arith}
 use Rattle.std.proofs.lemmas.List.{length-drop, length-take-le}
 use Rattle.flat_db.proofs.PlainLemmas.{written_line}
 use Rattle.flat_db.proofs.lines.plain_line.Goals as goal

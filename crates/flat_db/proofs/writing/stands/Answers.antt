@@ -1,4 +1,4 @@
-use Rattle.std.proofs.Common.{◌≡◌, arith}
+use Rattle.std.proofs.Common.{arith}
 use Rattle.base_bytes.specs.Escapes.{escaped_byte}
 use Rattle.flat_db.proofs.writing.stands.Goals as goal
 
