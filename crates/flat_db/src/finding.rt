@@ -12,6 +12,16 @@ use crate::lines::{next_line, plain_end};
 use crate::pairs::{Entry, Span, part};
 use base_bytes::{Damage, compare_keys};
 
+// Whether two keys are the same. Most differ in size already.
+fn is_same(key: &[u8], other: &[u8]) -> bool
+    ensures { result ≡ is_at (key_order key.now) other.now }
+{
+    if key.len() != other.len() {
+        return false;
+    }
+    compare_keys(key, other).is_eq()
+}
+
 // The value of a line that has the key, else the one that was found before.
 fn later_value(text: &[u8], entry: Entry, key: &[u8], found: Option<Span>) -> Option<Span>
     ensures value { option_map (part_of text.now) result
@@ -19,7 +29,7 @@ fn later_value(text: &[u8], entry: Entry, key: &[u8], found: Option<Span>) -> Op
         (Some (part_of text.now entry.value)) (option_map (part_of text.now) found) }
     ensures ends { (end : ℕ) → EndsBy end entry → IsSpanWithin end found → IsSpanWithin end result }
 {
-    if compare_keys(key, part(text, entry.key)).is_eq() {
+    if is_same(key, part(text, entry.key)) {
         Some(entry.value)
     } else {
         found
