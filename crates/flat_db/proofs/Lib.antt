@@ -12,3 +12,4 @@ pub mod PlainLemmas
 pub mod SessionLemmas
 pub mod Sizes
 pub mod TextLaws
+pub mod UnescapedLemmas

@@ -51,7 +51,7 @@ part_stands text at size n to fits within ends plain nowhere =
     (λ i below is. nowhere i (omega arith) below (subst (λ (b : ℕ). is_byte2 9 10 b ≡ true) (sym (get_or-take size (drop at text) i 0 (omega (arith, below, fits)))) is))
 
 -- what follows an offset, up to a byte and behind it
-split_off : (text : List ℕ) (from size byte : ℕ) → from + size < length text → get_or text (from + size) 0 ≡ byte → drop from text ≡ take size (drop from text) ++ (byte ∷ drop (from + size + 1) text)
+pub split_off : (text : List ℕ) (from size byte : ℕ) → from + size < length text → get_or text (from + size) 0 ≡ byte → drop from text ≡ take size (drop from text) ++ (byte ∷ drop (from + size + 1) text)
 split_off text from size byte below is =
     sym (take-append-drop size (drop from text))
     ∙ ap (λ (l : List ℕ). take size (drop from text) ++ l) (drop-drop size from text ∙ drop_more text (from + size) 0 below ∙ ap (λ (b : ℕ). b ∷ drop (from + size + 1) text) is)
@@ -99,10 +99,10 @@ stands_says text at next entry some is =
       says_line (pair_of text entry) some,
     )
 
--- what is plain stays so from a later offset on, where nothing behind it was changed
-pub plain_later : (old new : List ℕ) (at next to : ℕ) → at ≤ next → drop next new ≡ drop next old → IsPlain old at to → IsPlain new next to
-plain_later old new at next to later same plain k from below is =
-    plain k (omega (arith, later, from)) below (subst (λ (b : ℕ). is_byte3 255 0 13 b ≡ true) byte is)
+-- what no byte is, none is from a later offset on, where nothing behind it was changed
+pub test_later : (test : ℕ → Bool) (old new : List ℕ) (at next to : ℕ) → at ≤ next → drop next new ≡ drop next old → Nowhere (Passes test old) at to → Nowhere (Passes test new) next to
+test_later test old new at next to later same nowhere k from below is =
+    nowhere k (omega (arith, later, from)) below (subst (λ (b : ℕ). test b ≡ true) byte is)
   where
     byte_in : (xs : List ℕ) → get_or (drop next xs) (k - next) 0 ≡ get_or xs k 0
     byte_in xs = get_or-drop next xs (k - next) 0 ∙ ap (λ (n : ℕ). get_or xs n 0) (omega (arith, from))

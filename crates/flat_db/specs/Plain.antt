@@ -1,6 +1,6 @@
 -- What is written as it stands.
 use Rattle.std.specs.Prelude.{◌≡◌, ◌≢◌, ℕ, ◌<◌, ◌≤◌, List, [], ◌∷◌, ◌++◌, length, drop, slice_index}
-use Rattle.memchr.specs.Find.{Nowhere, Passes, is_byte3}
+use Rattle.memchr.specs.Find.{Nowhere, Passes, is_byte, is_byte3}
 use Rattle.base_bytes.specs.Escapes.{escaped_byte}
 use Rattle.flat_db.specs.FlatText.{pair_line}
 use Rattle.flat_db.specs.Entries.{EndsBy, part_of}
@@ -13,6 +13,10 @@ Stands field = (i : ℕ) → i < length field → escaped_byte (slice_index fiel
 -- between two offsets no byte but TAB and LF begins an escape, or is written by one
 abbrev pub IsPlain : List ℕ → ℕ → ℕ → Type 0
 IsPlain text from to = Nowhere (Passes (is_byte3 0xff 0 13) text) from to
+
+-- between two offsets no escape begins
+abbrev pub IsUnescaped : List ℕ → ℕ → ℕ → Type 0
+IsUnescaped text from to = Nowhere (Passes (is_byte 0xff) text) from to
 
 -- The text has at this offset the line that is written for the entry's pair, and its key is not empty.
 pub record HasWritten (text : List ℕ) (at : ℕ) (line : Line) : Type 0 where

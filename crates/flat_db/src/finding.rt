@@ -8,7 +8,7 @@ ghost use Rattle.flat_db.specs.Finding.{FindsValue, IsSpanWithin};
 ghost use Rattle.flat_db.specs.Reading.{IsFlatFault};
 
 use crate::FlatFault;
-use crate::lines::{next_line, plain_end};
+use crate::lines::{any_line, unescaped_end};
 use crate::pairs::{Entry, Span, part};
 use base_bytes::{Damage, compare_keys};
 
@@ -47,8 +47,8 @@ pub(crate) fn last_value(text: &mut [u8], key: &[u8]) -> Result<Option<Span>, Fl
     let mut known = 0;
     let mut found = None;
     while at < text.len() {
-        known = plain_end(text, at, known);
-        let line = match next_line(text, at, known) {
+        known = unescaped_end(text, at, known);
+        let line = match any_line(text, at, known) {
             Ok(line) => line,
             Err(Damage { at, check }) => return Err(FlatFault::Damaged { at, check }),
         };

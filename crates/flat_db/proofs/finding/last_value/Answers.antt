@@ -5,13 +5,14 @@ use Rattle.std.proofs.lemmas.List.{drop_all}
 use Rattle.std.proofs.lemmas.List.Sums.{fold-append}
 use Rattle.base_bytes.specs.OrderedMap.{Map, key_order, value_at}
 use Rattle.base_bytes.proofs.OrderedMaps.{value_put}
+use Rattle.memchr.specs.Find.{is_byte}
 use Rattle.flat_db.specs.FlatText.{SaysPairs, put_all}
 use Rattle.flat_db.specs.Entries.{pair_of, part_of}
 use Rattle.flat_db.specs.Finding.{IsSpanWithin}
 use Rattle.flat_db.specs.declared.pairs.Span.{Span}
 use Rattle.flat_db.proofs.Canonical.{put_pair}
 use Rattle.flat_db.proofs.LineLemmas.{flawed_there, says_later, drop_later, part_below}
-use Rattle.flat_db.proofs.PlainLemmas.{plain_later}
+use Rattle.flat_db.proofs.PlainLemmas.{test_later}
 use Rattle.flat_db.proofs.finding.last_value.Goals as goal
 
 -- the value that was found is still there
@@ -41,7 +42,7 @@ loop-at-init c = record {
   said = ([], refl, nothing c.args.key.now);
   ends = tt;
   known = omega arith;
-  plain = λ k from below is. omega (arith, below);
+  unescaped = λ k from below is. omega (arith, below);
 }
 
 pub returns-in-Err-clause-fault : goal.returns-in-Err-clause-fault
@@ -53,7 +54,7 @@ pub loop-at-preserved : goal.loop-at-preserved
 loop-at-preserved c =
     let text = c.args.text.now in
     let old = c.loop-at.text in
-    let new = c.next_line.new.text in
+    let new = c.any_line.new.text in
     let at = c.loop-at.at in
     let line = c.in-Ok.line in
     let inv = c.loop-at.invariant in
@@ -72,8 +73,8 @@ loop-at-preserved c =
             ∙ sym (value_more inv.said.0 pair c.args.key.now),
       );
       ends = c.later_value-found.ensures.ends line.next c.in-Ok.ensures.ends (span_later at line.next c.loop-at.found (omega (arith, next.0)) inv.ends);
-      known = omega (arith, long, c.plain_end-known.ensures.within);
-      plain = plain_later old new at line.next c.plain_end-known.result (omega (arith, next.0)) c.in-Ok.ensures.after c.plain_end-known.ensures.plain;
+      known = omega (arith, long, c.unescaped_end-known.ensures.within);
+      unescaped = test_later (is_byte 255) old new at line.next c.unescaped_end-known.result (omega (arith, next.0)) c.in-Ok.ensures.after c.unescaped_end-known.ensures.unescaped;
     }
 
 pub returns-clause-found : goal.returns-clause-found

@@ -4,7 +4,7 @@ use Rattle.base_bytes.specs.OrderedMap.{Map, value_at}
 use Rattle.flat_db.specs.FlatText.{SaysPairs, put_all}
 use Rattle.flat_db.specs.Entries.{part_of}
 use Rattle.flat_db.specs.Finding.{IsSpanWithin}
-use Rattle.flat_db.specs.Plain.{IsPlain}
+use Rattle.flat_db.specs.Plain.{IsUnescaped}
 use Rattle.flat_db.proofs.finding.last_value.Given as goal
 
 abbrev pub invariant-loop-at : goal.invariant-loop-at
@@ -15,7 +15,7 @@ invariant-loop-at l = record {
   said : (pairs : Map) × SaysPairs l.initial.text pairs (drop l.at l.initial.text) × (option_map (part_of l.text) l.found ≡ value_at (put_all pairs) l.key);
   ends : IsSpanWithin l.at l.found;
   known : l.known ≤ length l.text;
-  plain : IsPlain l.text l.at l.known;
+  unescaped : IsUnescaped l.text l.at l.known;
 }
 
 abbrev pub decreases-loop-at : goal.decreases-loop-at

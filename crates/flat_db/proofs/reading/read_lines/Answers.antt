@@ -3,11 +3,12 @@ use Rattle.std.specs.List.{All}
 use Rattle.std.proofs.lemmas.List.{map_push, drop_all, append-nil}
 use Rattle.std.proofs.lemmas.Grind.{common_steps}
 use Rattle.base_bytes.specs.OrderedMap.{Map}
+use Rattle.memchr.specs.Find.{is_byte3}
 use Rattle.flat_db.specs.FlatText.{SaysPairs, canonical_text}
 use Rattle.flat_db.specs.Entries.{pair_of, pairs_of, EndsBy}
 use Rattle.flat_db.specs.declared.pairs.Entry.{Entry}
 use Rattle.flat_db.proofs.FieldLemmas.{first_of_both, second_of_both}
-use Rattle.flat_db.proofs.PlainLemmas.{plain_later, written_more}
+use Rattle.flat_db.proofs.PlainLemmas.{test_later, written_more}
 use Rattle.flat_db.proofs.LineLemmas.{pairs_below, ends_later, says_later, flawed_there, all_push, drop_later}
 use Rattle.flat_db.proofs.reading.read_lines.Goals as goal
 
@@ -35,7 +36,7 @@ loop-at-preserved c =
           (says_later c.args.text.now old c.loop-at.at line.next (pairs_of old entries) (pair_of text line.entry) (omega (arith, next.0)) inv.rest inv.pairs c.in-Ok.ensures.pair);
       ends = subst (λ (l : List Entry). All (EndsBy line.next) l) (sym items) (all_push line.next entries line.entry (ends_later c.loop-at.at line.next entries (omega (arith, next.0)) inv.ends) c.in-Ok.ensures.ends);
       known = omega (arith, long, c.plain_end-known.ensures.within);
-      plain = plain_later old text c.loop-at.at line.next c.plain_end-known.result (omega (arith, next.0)) c.in-Ok.ensures.after c.plain_end-known.ensures.plain;
+      plain = test_later (is_byte3 255 0 13) old text c.loop-at.at line.next c.plain_end-known.result (omega (arith, next.0)) c.in-Ok.ensures.after c.plain_end-known.ensures.plain;
       written = λ is.
           let plain = second_of_both c.loop-at.is_plain line.is_plain is in
           subst (λ (l : List Entry). text ≡ canonical_text (pairs_of text l) ++ drop line.next text) (sym items)
