@@ -45,7 +45,7 @@ fn read_value<D: Disk>(
 ) -> Result<Option<Bytes>, OpenFault>
     requires size { Shows (D.state disk.old) → HasLength (D.state disk.old).reads size }
     requires within { size ≤ FLAT_LIMIT }
-    ensures value { IfOk result (λ value. WhereRead (D.state disk.old) (HasValue key.now value)) }
+    ensures value { IfOk result (λ value. HasValue key.now value (D.state disk.old)) }
     ensures refused { IfErr result (λ fault. WhereRead (D.state disk.old)
         (λ main. IsOpenRefusal flat_kind main fault)) }
     ensures cause { FaultHasCause IsDeviceFault (D.state disk.old).faults (D.state disk.new).faults
@@ -74,7 +74,7 @@ pub fn fetch_db<D: Disk>(
     disk: &mut D,
     key: &[u8],
 ) -> Result<Option<Bytes>, OpenFault>
-    ensures value { IfOk result (λ value. WhereRead (D.state disk.old) (HasValue key.now value)) }
+    ensures value { IfOk result (λ value. HasValue key.now value (D.state disk.old)) }
     ensures refused { IfErr result (λ fault. WhereRead (D.state disk.old)
         (λ main. IsOpenRefusal flat_kind main fault)) }
     ensures cause { FaultHasCause IsDeviceFault (D.state disk.old).faults (D.state disk.new).faults

@@ -7,5 +7,5 @@ read_value-requires-clause-size g c = told_length _ c.in_ok-size.size (λ main i
 
 pub returns-clause-opens : goal.returns-clause-opens
 returns-clause-opens g c main is =
-    let file = c.in_ok-_no_value.ensures.value main (c.file_size.ensures.stays.main.reads ∙ is) in
-    (file.so.map, record { bytes = file.bytes; there = file.there; within = file.within; so = file.so.reads })
+    let has = c.in_ok-_no_value.ensures.value in
+    (has.map, has.opens main (c.file_size.ensures.stays.main.reads ∙ is))
