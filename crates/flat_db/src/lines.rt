@@ -100,15 +100,17 @@ pub(crate) struct Line {
 fn line_at(text: &mut [u8], at: usize) -> Result<Line, Damage>
     requires some { at < length text.old }
     requires short { length text.old ≤ 4294967295 }
-    ensures next { IfOk result (λ line. (at < line.next) × (line.next ≤ length text.old)) }
-    ensures before { IfOk result (λ line. take at text.new ≡ take at text.old) }
-    ensures after { IfOk result (λ line. drop line.next text.new ≡ drop line.next text.old) }
     ensures pair { IfOk result (λ line. (whole : List ℕ)
         × HasLine (drop at text.old) whole (drop line.next text.old)
         × SaysPair whole (pair_of text.new line.entry)) }
-    ensures ends { IfOk result (λ line. EndsBy line.next line.entry) }
     ensures flaw { IfErr result (λ damage. IsFlawedLine at (drop at text.old) damage) }
     ensures plain { IfOk result (λ line. line.is_plain ≡ false) }
+
+    // The text in front of the line and behind it stays.
+    ensures next { IfOk result (λ line. (at < line.next) × (line.next ≤ length text.old)) }
+    ensures before { IfOk result (λ line. take at text.new ≡ take at text.old) }
+    ensures after { IfOk result (λ line. drop line.next text.new ≡ drop line.next text.old) }
+    ensures ends { IfOk result (λ line. EndsBy line.next line.entry) }
 {
     let end = line_end(text, at);
     match read_line(&mut text[at..end]) {
@@ -194,16 +196,18 @@ pub(crate) fn next_line(text: &mut [u8], at: usize, plain: usize) -> Result<Line
     requires ordered { at ≤ plain }
     requires within { plain ≤ length text.old }
     requires plain { IsPlain text.old at plain }
-    ensures next { IfOk result (λ line. (at < line.next) × (line.next ≤ length text.old)) }
-    ensures before { IfOk result (λ line. take at text.new ≡ take at text.old) }
-    ensures after { IfOk result (λ line. drop line.next text.new ≡ drop line.next text.old) }
     ensures pair { IfOk result (λ line. (whole : List ℕ)
         × HasLine (drop at text.old) whole (drop line.next text.old)
         × SaysPair whole (pair_of text.new line.entry)) }
-    ensures ends { IfOk result (λ line. EndsBy line.next line.entry) }
     ensures flaw { IfErr result (λ damage. IsFlawedLine at (drop at text.old) damage) }
     ensures written { IfOk result (λ line. line.is_plain ≡ true → HasWritten text.new at line) }
     ensures same { IfOk result (λ line. line.is_plain ≡ true → text.new ≡ text.old) }
+
+    // The text in front of the line and behind it stays.
+    ensures next { IfOk result (λ line. (at < line.next) × (line.next ≤ length text.old)) }
+    ensures before { IfOk result (λ line. take at text.new ≡ take at text.old) }
+    ensures after { IfOk result (λ line. drop line.next text.new ≡ drop line.next text.old) }
+    ensures ends { IfOk result (λ line. EndsBy line.next line.entry) }
 {
     match plain_line(text, at, plain) {
         Some(line) => Ok(line),
@@ -272,14 +276,16 @@ pub(crate) fn any_line(text: &mut [u8], at: usize, unescaped: usize) -> Result<L
     requires ordered { at ≤ unescaped }
     requires within { unescaped ≤ length text.old }
     requires unescaped { IsUnescaped text.old at unescaped }
-    ensures next { IfOk result (λ line. (at < line.next) × (line.next ≤ length text.old)) }
-    ensures before { IfOk result (λ line. take at text.new ≡ take at text.old) }
-    ensures after { IfOk result (λ line. drop line.next text.new ≡ drop line.next text.old) }
     ensures pair { IfOk result (λ line. (whole : List ℕ)
         × HasLine (drop at text.old) whole (drop line.next text.old)
         × SaysPair whole (pair_of text.new line.entry)) }
-    ensures ends { IfOk result (λ line. EndsBy line.next line.entry) }
     ensures flaw { IfErr result (λ damage. IsFlawedLine at (drop at text.old) damage) }
+
+    // The text in front of the line and behind it stays.
+    ensures next { IfOk result (λ line. (at < line.next) × (line.next ≤ length text.old)) }
+    ensures before { IfOk result (λ line. take at text.new ≡ take at text.old) }
+    ensures after { IfOk result (λ line. drop line.next text.new ≡ drop line.next text.old) }
+    ensures ends { IfOk result (λ line. EndsBy line.next line.entry) }
 {
     match unescaped_line(text, at, unescaped) {
         Some(line) => Ok(line),
