@@ -57,7 +57,7 @@ line_then key value rest =
     ∙ ap (λ (l : List ℕ). escaped key ++ (9 ∷ l)) (append_assoc (escaped value) (10 ∷ []) rest)
     ∙ sym (append_assoc (escaped key) (9 ∷ escaped value) (10 ∷ rest))
 
-says_line : (p : List ℕ × List ℕ) → p.0 ≢ [] → SaysPair (escaped p.0 ++ (9 ∷ escaped p.1)) p
+pub says_line : (p : List ℕ × List ℕ) → p.0 ≢ [] → SaysPair (escaped p.0 ++ (9 ∷ escaped p.1)) p
 says_line p some = record {
   key_field = escaped p.0;
   value_field = escaped p.1;
@@ -67,7 +67,7 @@ says_line p some = record {
   some = some;
 }
 
-has_line : (key value rest : List ℕ) → HasLine (pair_line key value ++ rest) (escaped key ++ (9 ∷ escaped value)) rest
+pub has_line : (key value rest : List ℕ) → HasLine (pair_line key value ++ rest) (escaped key ++ (9 ∷ escaped value)) rest
 has_line key value rest = record {
   some = λ is. omega (arith, ap length (sym is ∙ line_then key value rest), length-append (escaped key ++ (9 ∷ escaped value)) (10 ∷ rest));
   whole = free_then 10 (escaped key) (9 ∷ escaped value) (escaped_free 10 key (inr refl)) (free_then 10 (9 ∷ []) (escaped value) (free_one 10 9 (λ is. omega (arith, is))) (escaped_free 10 value (inr refl)));

@@ -8,6 +8,8 @@ pub mod LineLemmas
 pub mod OpeningLemmas
 pub mod PairLemmas
 pub mod PlaceLemmas
+pub mod PlainLemmas
 pub mod SessionLemmas
 pub mod Sizes
 pub mod TextLaws
+pub mod UnescapedLemmas

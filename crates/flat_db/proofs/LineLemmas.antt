@@ -5,7 +5,9 @@ use Rattle.std.specs.List.{All}
 use Rattle.std.proofs.lemmas.List.{take-append-drop, drop_more, drop_all, drop-drop, drop_at, take-append-le, drop-append-le, length-drop, length-take-le, drop-take, take-take, append-nil}
 use borrow.Rule.Slice.PartMut.{put_mid, post_of}
 use Rattle.base_bytes.specs.OrderedMap.{Map}
-use Rattle.flat_db.specs.FlatText.{IsFree, HasLine, SaysPair, SaysPairs}
+use Rattle.base_bytes.specs.declared.flaw.Damage.{Damage}
+use Rattle.flat_db.specs.FlatText.{IsFree, HasLine, SaysPair, SaysPairs, IsFlawedAt}
+use Rattle.flat_db.specs.Lines.{IsFlawedLine}
 use Rattle.flat_db.specs.Entries.{part_of, pair_of, pairs_of, EndsBy}
 use Rattle.flat_db.specs.declared.pairs.Span.{Span}
 use Rattle.flat_db.specs.declared.pairs.Entry.{Entry}
@@ -51,7 +53,7 @@ later_part at k from size text new fits within =
 -- ---- entries
 
 -- what stands before an offset, where the bytes before it are the same
-part_below : (old new : List ℕ) (at : ℕ) (span : Span) → take at new ≡ take at old → span.start + span.size ≤ at → part_of new span ≡ part_of old span
+pub part_below : (old new : List ℕ) (at : ℕ) (span : Span) → take at new ≡ take at old → span.start + span.size ≤ at → part_of new span ≡ part_of old span
 part_below old new at span same ends = within new ∙ ap (λ (l : List ℕ). take span.size (drop span.start l)) same ∙ sym (within old)
   where
     within : (xs : List ℕ) → take span.size (drop span.start xs) ≡ take span.size (drop span.start (take at xs))
@@ -73,7 +75,7 @@ ends_later at next entries le ends k d below =
     record { key = omega (arith, here.key); value = omega (arith, here.value) }
 
 -- one line more
-pub says_more : (pairs : List (List ℕ × List ℕ)) (text rest line later : List ℕ) (p : List ℕ × List ℕ) → SaysPairs text pairs rest → HasLine rest line later → SaysPair line p → SaysPairs text (pairs ++ (p ∷ [])) later
+says_more : (pairs : List (List ℕ × List ℕ)) (text rest line later : List ℕ) (p : List ℕ × List ℕ) → SaysPairs text pairs rest → HasLine rest line later → SaysPair line p → SaysPairs text (pairs ++ (p ∷ [])) later
 says_more [] text rest line later p says has pair = (line, later, subst (λ (l : List ℕ). HasLine l line later) (sym says) has, pair, refl)
 says_more (q ∷ pairs) text rest line later p says has pair = (says.0, says.1, says.2, says.3, says_more pairs says.1 rest line later p says.4 has pair)
 
@@ -87,3 +89,24 @@ all_push end (e ∷ entries) entry ends here (suc k) d below = all_push end entr
 pub drop_later : (at next : ℕ) (xs ys : List ℕ) → at ≤ next → drop at xs ≡ drop at ys → drop next xs ≡ drop next ys
 drop_later at next xs ys le same =
     ap (λ (n : ℕ). drop n xs) (omega arith) ∙ sym (drop-drop (next - at) at xs) ∙ ap (drop (next - at)) same ∙ drop-drop (next - at) at ys ∙ ap (λ (n : ℕ). drop n ys) (omega arith)
+
+-- the first flaw of a text, in the line that begins at an offset
+pub flawed_there : (text now : List ℕ) (at : ℕ) (pairs : Map) (damage : Damage) → at ≤ length text → drop at now ≡ drop at text → SaysPairs text pairs (drop at text) → IsFlawedLine at (drop at now) damage → IsFlawedAt text damage
+flawed_there text now at pairs damage within same says flaw = record {
+  before = pairs;
+  rest = drop at text;
+  line = flaw.line;
+  later = flaw.later;
+  offset = flaw.offset;
+  sound = says;
+  first = subst (λ (l : List ℕ). HasLine l flaw.line flaw.later) same flaw.first;
+  flaw = flaw.flaw;
+  place = omega (arith, flaw.place, within, length-drop at text);
+}
+
+-- the pairs so far, and that of one line more
+pub says_later : (text now : List ℕ) (at next : ℕ) (pairs : Map) (p : List ℕ × List ℕ) → at ≤ next → drop at now ≡ drop at text → SaysPairs text pairs (drop at text) → (whole : List ℕ) × HasLine (drop at now) whole (drop next now) × SaysPair whole p → SaysPairs text (pairs ++ (p ∷ [])) (drop next text)
+says_later text now at next pairs p later same says pair =
+    says_more pairs text (drop at text) pair.0 (drop next text) p says
+    (subst (λ (l : List ℕ). HasLine l pair.0 (drop next text)) same (subst (λ (l : List ℕ). HasLine (drop at now) pair.0 l) (drop_later at next now text later same) pair.1))
+    pair.2

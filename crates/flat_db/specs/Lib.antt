@@ -1,10 +1,12 @@
 pub mod Entries
+pub mod Finding
 pub mod FlatText
 pub mod Kept
 pub mod Laws
 pub mod Lines
 pub mod Opening
 pub mod Places
+pub mod Plain
 pub mod Reading
 pub mod Sessions
 pub mod Writing

@@ -6,9 +6,8 @@ ghost use Rattle.flat_db.specs.FlatText.{FlatTextOf};
 ghost use Rattle.flat_db.specs.Reading.{IsFlatFault};
 
 use crate::pairs::Pairs;
-use crate::reading::{in_order, read_lines, text_size};
+use crate::reading::{in_order, line_feeds, read_lines, text_size};
 use base_bytes::Flaw;
-use memchr::memchr_iter;
 use std::alloc::Global;
 use std::marker::Model;
 
@@ -63,15 +62,15 @@ pub(crate) fn map_of(alloc: Global, text: Vec<u8>) -> Result<FlatMap, FlatFault>
     if bytes.len() > u32::MAX as usize {
         return Err(FlatFault::NoMemory);
     }
-    let lines = memchr_iter(b'\n', &bytes).count() + 1;
+    let lines = line_feeds(&bytes).saturating_add(1);
     let Ok(mut entries) = Vec::with_capacity(alloc, lines) else {
         return Err(FlatFault::NoMemory);
     };
-    read_lines(&mut bytes, &mut entries)?;
-    let Ok(()) = in_order(&bytes, &mut entries) else {
+    let is_plain = read_lines(&mut bytes, &mut entries)?;
+    let Ok(rose) = in_order(&bytes, &mut entries) else {
         return Err(FlatFault::NoMemory);
     };
-    let size = text_size(&bytes, &entries);
+    let size = text_size(&bytes, &entries, is_plain & rose);
     Ok(FlatMap {
         bytes,
         pairs: Pairs { entries, size },

@@ -5,12 +5,15 @@
 //!   pairs, flat_map     a map in memory: where its pairs stand among some bytes
 //!   writing, replacing  a map is written in pieces, and its text put in the place of the main file
 //!   session, opening    a session over a file, and how it is opened, looked through and made
+//!   finding, looking    one key is looked for, or a flaw, and no map is made
 //!   laws                what holds of every text
 #![tactic(auto)]
 
+mod finding;
 mod flat_map;
 mod laws;
 mod lines;
+mod looking;
 mod opening;
 mod pairs;
 mod reading;
@@ -22,6 +25,7 @@ mod writing;
 
 pub use flat_map::{FlatFault, FlatMap, read_flat};
 pub use laws::{canonical_text_reads_back, flat_kind_keeps_its_laws, flawless_text_opens_once};
+pub use looking::{fetch_db, verify_db};
 pub use opening::{check_db, open_db};
 pub use replacing::create;
 pub use session::FlatDb;

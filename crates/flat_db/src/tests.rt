@@ -1,4 +1,5 @@
 // Texts and the maps that they say.
+use crate::looking::value_in;
 use crate::{FlatFault, FlatMap, read_flat};
 use base_bytes::{FLAT_LIMIT, Flaw};
 use db_core::pair_fault;
@@ -32,6 +33,169 @@ fn later_lines_win(rt: HostRuntime) -> Result<(), Fail> {
     assert_eq!(rt; pairs.size, 7 + 4 + 6 + 10);
     assert_eq!(rt; pairs.size_with(&bytes, b"c", b"3"), 31);
     assert_eq!(rt; pairs.size_with(&bytes, b"b", b""), 20);
+    Ok(())
+}
+
+// A text with at most one line that is not as the tools write it, and what it says: the value of one key, how many
+// pairs, and the size of the canonical text.
+struct Case {
+    name: &'static str,
+    text: &'static [u8],
+    key: &'static [u8],
+    value: &'static [u8],
+    count: u64,
+    size: u64,
+}
+
+const CASES: &[Case] = &[
+    Case {
+        name: "plain lines",
+        text: b"a\t9\nb\t1\nc\t1\nd\t1\n",
+        key: b"a",
+        value: b"9",
+        count: 4,
+        size: 16,
+    },
+    Case {
+        name: "an escaped line, first",
+        text: b"a\xff\x89\t\xff\xff\nb\t1\nc\t1\nd\t1\n",
+        key: b"a\t",
+        value: b"\xff",
+        count: 4,
+        size: 19,
+    },
+    Case {
+        name: "an escaped line, in the middle",
+        text: b"a\t1\nb\t1\nc\xff\x8a\t2\xff\x80\nd\t1\n",
+        key: b"c\n",
+        value: b"2\0",
+        count: 4,
+        size: 20,
+    },
+    Case {
+        name: "an escaped line, last",
+        text: b"a\t1\nb\t1\nc\t1\nd\t\xff\x8d",
+        key: b"d",
+        value: b"\r",
+        count: 4,
+        size: 17,
+    },
+    Case {
+        name: "a value with a TAB as it is, first",
+        text: b"a\t\t\nb\t1\nc\t1\nd\t1\n",
+        key: b"a",
+        value: b"\t",
+        count: 4,
+        size: 17,
+    },
+    Case {
+        name: "a key with a CR as it is, in the middle",
+        text: b"a\t1\nb\r\t9\nc\t1\nd\t1\n",
+        key: b"b\r",
+        value: b"9",
+        count: 4,
+        size: 18,
+    },
+    Case {
+        name: "a value with a zero byte as it is, last",
+        text: b"a\t1\nb\t1\nc\t1\nd\t\0\n",
+        key: b"d",
+        value: b"\0",
+        count: 4,
+        size: 17,
+    },
+    Case {
+        name: "control bytes that are never escaped",
+        text: b"a\t1\nb\x01\t\x0b\x0c\x1f\x7f\xfe\nc\t1\n",
+        key: b"b\x01",
+        value: b"\x0b\x0c\x1f\x7f\xfe",
+        count: 3,
+        size: 17,
+    },
+    Case {
+        name: "an unordered line, first",
+        text: b"d\t9\na\t1\nb\t1\nc\t1\n",
+        key: b"d",
+        value: b"9",
+        count: 4,
+        size: 16,
+    },
+    Case {
+        name: "an unordered line, in the middle",
+        text: b"a\t1\nc\t9\nb\t1\nd\t1\n",
+        key: b"c",
+        value: b"9",
+        count: 4,
+        size: 16,
+    },
+    Case {
+        name: "an unordered line, last",
+        text: b"b\t1\nc\t1\nd\t1\na\t9\n",
+        key: b"a",
+        value: b"9",
+        count: 4,
+        size: 16,
+    },
+    Case {
+        name: "a repeated line, first",
+        text: b"a\t1\na\t9\nb\t1\nc\t1\n",
+        key: b"a",
+        value: b"9",
+        count: 3,
+        size: 12,
+    },
+    Case {
+        name: "a repeated line, in the middle",
+        text: b"a\t1\nb\t1\nb\t9\nc\t1\n",
+        key: b"b",
+        value: b"9",
+        count: 3,
+        size: 12,
+    },
+    Case {
+        name: "a repeated line, last",
+        text: b"a\t1\nb\t1\nc\t1\nc\t9\n",
+        key: b"c",
+        value: b"9",
+        count: 3,
+        size: 12,
+    },
+    Case {
+        name: "a key at both ends",
+        text: b"a\t1\nb\t1\nc\t1\na\t9\n",
+        key: b"a",
+        value: b"9",
+        count: 3,
+        size: 12,
+    },
+    Case {
+        name: "a last line without LF",
+        text: b"a\t1\nb\t1\nc\t9",
+        key: b"c",
+        value: b"9",
+        count: 3,
+        size: 12,
+    },
+];
+
+#[test]
+fn odd_lines_among_plain_ones(rt: HostRuntime) -> Result<(), Fail> {
+    let alloc = rt.alloc();
+    for case in CASES {
+        let name = case.name;
+        let map = read_flat(alloc, case.text)?;
+        assert_eq!(rt; map.count(), case.count, "{name}");
+        assert!(rt; map.fetch(case.key) == Some(case.value), "{name}");
+        assert_eq!(rt; map.pairs.size, case.size, "{name}");
+        match value_in(alloc, case.text.to_vec(alloc)?, case.key)? {
+            Some(value) => assert!(rt; value.as_slice() == case.value, "{name}"),
+            None => assert!(rt; false, "{name}"),
+        }
+        assert!(rt;
+            value_in(alloc, case.text.to_vec(alloc)?, b"")?.is_none(),
+            "{name}"
+        );
+    }
     Ok(())
 }
 

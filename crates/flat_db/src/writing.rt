@@ -1,11 +1,12 @@
 // A map is written as its canonical text, in pieces, into the new file of a disk.
-ghost use Rattle.std.specs.Prelude.{◌≡◌, ◌<◌, ◌≤◌, ◌+◌, ◌-◌, ◌∷◌, ◌++◌, [], IsSome, OnOk, length};
+ghost use Rattle.std.specs.Prelude.{◌≡◌, ◌<◌, ◌≤◌, ◌+◌, ◌-◌, ◌∷◌, ◌++◌, [], true, IsSome, OnOk, length, take};
 ghost use Rattle.std.specs.Result.{IsOk};
-ghost use Rattle.base_bytes.specs.Escapes.{escaped};
+ghost use Rattle.base_bytes.specs.Escapes.{escaped, escaped_byte};
 ghost use Rattle.base_bytes.specs.declared.limits.TheConstants.{PIECE_SIZE};
 ghost use Rattle.base_devices.specs.CrashImages.{Shows};
 ghost use Rattle.flat_db.specs.Entries.{pairs_of};
 ghost use Rattle.flat_db.specs.FlatText.{canonical_text, pair_line};
+ghost use Rattle.flat_db.specs.Plain.{Stands};
 ghost use Rattle.flat_db.specs.Writing.{AddsBytes, Gathers, filling};
 
 use crate::pairs::{Entry, part};
@@ -41,6 +42,39 @@ fn make_room<D: Disk>(disk: &mut D, piece: &mut Piece) -> Result<(), Failed>
     Ok(())
 }
 
+// Whether a byte is written as it is. Some other control characters are taken for escaped ones: so it is one range.
+fn stands(byte: u8) -> bool
+    ensures { result ≡ true → escaped_byte byte ≡ byte ∷ [] }
+{
+    (byte > b'\r') & (byte < 0xff)
+}
+
+// Whether each byte of a field is written as it is. Without a branch, so that the compiler can look at several bytes at
+// once.
+fn field_stands(field: &[u8]) -> bool
+    ensures { result ≡ true → Stands field.now }
+{
+    let mut all = true;
+    for byte in field {
+        all &= stands(*byte);
+    }
+    all
+}
+
+// Gathers the first bytes of a field, each escaped, as many as there is room for, and answers how many: at least one.
+fn add_field(piece: &mut Piece, field: &[u8]) -> usize
+    requires room { length piece.old + 2 ≤ PIECE_SIZE }
+    requires some { 0 < length field.now }
+    ensures added { piece.new ≡ piece.old ++ escaped (take result field.now) }
+    ensures bound { (0 < result) × (result ≤ length field.now) }
+{
+    if field_stands(field) {
+        piece.add(field)
+    } else {
+        piece.add_escaped(field)
+    }
+}
+
 // Writes a field, escaped.
 fn write_field<D: Disk>(disk: &mut D, field: &[u8], piece: &mut Piece) -> Result<(), Failed>
     requires { Shows (D.state disk.old) → IsSome (D.state disk.old).fresh }
@@ -53,7 +87,7 @@ fn write_field<D: Disk>(disk: &mut D, field: &[u8], piece: &mut Piece) -> Result
     let mut at = 0;
     while at < field.len() {
         make_room(disk, piece)?;
-        at += piece.add_escaped(&field[at..]);
+        at += add_field(piece, &field[at..]);
     }
     Ok(())
 }

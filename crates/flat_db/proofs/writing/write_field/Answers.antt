@@ -21,25 +21,25 @@ loop-at-preserved g c =
     let on = g.met.D.Disk.rest_goes_on in
     let field = c.args.field.now in
     let at = c.loop-at.at in
-    let count = c.add_escaped-at.result in
-    let bound = c.add_escaped-at.ensures.bound in
+    let count = c.add_field-at.result in
+    let bound = c.add_field-at.ensures.bound in
     let within : at + count ≤ length field = omega (arith, bound.1, ap length (take_rest field at), length-drop at field) in
     let added = escaped (take count (take (length field - at) (drop at field))) in
     let whole : escaped (take at field) ++ added ≡ escaped (take (at + count) field) = part_more field at count within in
     let both : (escaped (take at field) ++ []) ++ added ≡ escaped (take (at + count) field) = ap (λ (l : List ℕ). l ++ added) (append-nil (escaped (take at field))) ∙ whole in
     record {
       within = within;
-      adds = subst (λ (l : List ℕ). Adds (g.D.Disk.state c.args.disk.now) (g.D.Disk.state c.make_room.new.disk) c.args.piece.now c.add_escaped-at.new.self l) both
-          (adds_more (g.D.Disk.state c.args.disk.now) (g.D.Disk.state c.make_room.new.disk) c.args.piece.now c.make_room.new.piece c.add_escaped-at.new.self (escaped (take at field) ++ []) added
+      adds = subst (λ (l : List ℕ). Adds (g.D.Disk.state c.args.disk.now) (g.D.Disk.state c.make_room.new.disk) c.args.piece.now c.add_field-at.new.piece l) both
+          (adds_more (g.D.Disk.state c.args.disk.now) (g.D.Disk.state c.make_room.new.disk) c.args.piece.now c.make_room.new.piece c.add_field-at.new.piece (escaped (take at field) ++ []) added
           (adds_then _ _ _ c.args.piece.now c.loop-at.piece c.make_room.new.piece (escaped (take at field)) [] _ (on _ _ inv.rest) (on _ _ c.make_room.ensures.rest) inv.adds c.in_ok-make_room.ensures.adds)
-          c.add_escaped-at.ensures.added);
+          c.add_field-at.ensures.added);
       gathers = record {
         all = λ fits.
             let longer = part_longer field at count bound.0 within in
             let so_far = inv.gathers.all (omega (arith, fits, longer)) in
             let still = c.make_room.ensures.still (omega (arith, fits, longer, ap length so_far.1, length-append c.args.piece.now (escaped (take at field)))) in (
               still.0 ∙ so_far.0,
-              c.add_escaped-at.ensures.added ∙ ap (λ (l : List ℕ). l ++ added) (still.1 ∙ so_far.1) ∙ append_assoc c.args.piece.now (escaped (take at field)) added ∙ ap (λ (l : List ℕ). c.args.piece.now ++ l) whole,
+              c.add_field-at.ensures.added ∙ ap (λ (l : List ℕ). l ++ added) (still.1 ∙ so_far.1) ∙ append_assoc c.args.piece.now (escaped (take at field)) added ∙ ap (λ (l : List ℕ). c.args.piece.now ++ l) whole,
               refl,
             );
       };

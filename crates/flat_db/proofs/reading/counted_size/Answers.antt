@@ -1,6 +1,6 @@
 use Rattle.std.proofs.Common.{◌+◌, ℕ, length, ap, arith, length-append}
 use Rattle.flat_db.proofs.Sizes.{text_more, text_part}
-use Rattle.flat_db.proofs.reading.text_size.Goals as goal
+use Rattle.flat_db.proofs.reading.counted_size.Goals as goal
 
 pub overflow_add-size : goal.overflow_add-size
 overflow_add-size c =
