@@ -4,6 +4,7 @@
 //!   old_index   the file of the old index, and what it is read as; fault: why it may not be
 //!   records     the record of one message, fresh or kept
 //!   new_index   the records one after another, their totals, and the header over them
+//!   taking      each message is scanned, and what is found is put into the new index
 //!   report      the lines that are printed
 //!   replacing   the new index takes the old one's place
 //!   examples    two folders, by the definitions
@@ -14,11 +15,15 @@ mod fault;
 mod merge;
 mod new_index;
 mod old_index;
+mod planning;
+mod rebuilding;
 mod records;
 mod replacing;
 mod report;
+mod taking;
 
 pub use examples::{damaged_index_is_rebuilt, five_files_are_rebuilt};
 pub use fault::RebuildFault;
 pub use merge::{Merge, Pairing};
+pub use rebuilding::rebuild;
 pub use report::Tally;
