@@ -6,7 +6,9 @@
 //!   new_index   the records one after another, their totals, and the header over them
 //!   taking      each message is scanned, and what is found is put into the new index
 //!   report      the lines that are printed
+//!   planning    all that comes before the first output
 //!   replacing   the new index takes the old one's place
+//!   rebuilding  an index is rebuilt
 //!   examples    two folders, by the definitions
 #![tactic(auto)]
 

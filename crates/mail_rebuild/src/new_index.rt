@@ -63,8 +63,9 @@ impl NewIndex {
     // A message, with the record that it keeps.
     fn add_kept(&mut self, uid: u32, found: &Scanned, old: RecordView<'_>) -> Result<(), NoMemory>
         requires { self.old.totals.num_records < 4294967295 }
-        ensures added { OnOk result ((file : MessageFile) → IsScanned file.bytes file.time found.now →
-            uid ≡ uid_of_file file → AddsKept (kept_of (record_of old.entry) file) self.old self.new) }
+        ensures added { OnOk result ((file : MessageFile) →
+            IsScanned file.bytes file.time found.now → uid ≡ uid_of_file file →
+            AddsKept (kept_of (record_of old.entry) file) self.old self.new) }
         ensures counted { OnOk result (CountsOne self.old self.new) }
     {
         let made = kept_record(uid, found, old);
@@ -77,8 +78,8 @@ impl NewIndex {
     // A message that keeps nothing, with what is said of it.
     fn add_fresh(&mut self, uid: u32, found: &Scanned, said: &str) -> Result<(), NoMemory>
         requires { self.old.totals.num_records < 4294967295 }
-        ensures added { OnOk result ((file : MessageFile) → IsScanned file.bytes file.time found.now →
-            uid ≡ uid_of_file file →
+        ensures added { OnOk result ((file : MessageFile) →
+            IsScanned file.bytes file.time found.now → uid ≡ uid_of_file file →
             AddsFresh (fresh_of self.old.modseq self.old.time file) said.now self.old self.new) }
         ensures counted { OnOk result (CountsOne self.old self.new) }
     {
@@ -97,9 +98,11 @@ impl NewIndex {
         old: Option<RecordView<'_>>,
     ) -> Result<(), NoMemory>
         requires { HasRoom self.old }
-        ensures added { OnOk result ((file : MessageFile) → IsScanned file.bytes file.time found.now →
-            uid ≡ uid_of_file file → AddsFinding
-            (record { message = Some file; old = option_map record_of old.entry }) self.old self.new) }
+        ensures added { OnOk result ((file : MessageFile) →
+            IsScanned file.bytes file.time found.now → uid ≡ uid_of_file file →
+            AddsFinding
+            (record { message = Some file; old = option_map record_of old.entry })
+            self.old self.new) }
         ensures counted { OnOk result (CountsOne self.old self.new) }
     {
         match old {
@@ -111,8 +114,9 @@ impl NewIndex {
     // A message and the record of its uid.
     fn add_both(&mut self, uid: u32, found: &Scanned, old: RecordView<'_>) -> Result<(), NoMemory>
         requires { HasRoom self.old }
-        ensures added { OnOk result ((file : MessageFile) → IsScanned file.bytes file.time found.now →
-            uid ≡ uid_of_file file → AddsFinding
+        ensures added { OnOk result ((file : MessageFile) →
+            IsScanned file.bytes file.time found.now → uid ≡ uid_of_file file →
+            AddsFinding
             (record { message = Some file; old = Some (record_of old.entry) }) self.old self.new) }
         ensures counted { OnOk result (CountsOne self.old self.new) }
     {

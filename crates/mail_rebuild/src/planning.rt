@@ -39,8 +39,9 @@ fn list_folder<S: Spool>(alloc: Global, spool: &mut S) -> Result<Listing, Rebuil
     ensures listed { IfOk result (λ listing. (files : List MessageFile) →
         shown_files (S.state spool.old) ≡ Some files → IsListed files listing) }
     ensures few { IfOk result (λ listing. length listing.messages ≤ FILES_LIMIT) }
-    ensures limit { IfErr result (λ fault. (files : List MessageFile) → fault ≡ RebuildFault.TooMany →
-        shown_files (S.state spool.old) ≡ Some files → FILES_LIMIT < length files) }
+    ensures limit { IfErr result (λ fault. (files : List MessageFile) →
+        fault ≡ RebuildFault.TooMany → shown_files (S.state spool.old) ≡ Some files →
+        FILES_LIMIT < length files) }
     ensures refused { IfErr result IsListRefusal }
     ensures cause { FaultHasCause IsSpoolFault (S.state spool.old).faults
         (S.state spool.new).faults result }
@@ -101,7 +102,8 @@ pub(crate) fn prepare<D: Disk, S: Spool>(
 ) -> Result<Plan, RebuildFault>
     requires { GaveNoName (S.state spool.old) }
     ensures planned { IfOk result (λ plan.
-        WhereShown (S.state spool.old) (D.state disk.old) now options.now (λ task. IsPlan task plan)) }
+        WhereShown (S.state spool.old) (D.state disk.old) now options.now (λ task.
+        IsPlan task plan)) }
     ensures limit { IfErr result (λ fault.
         WhereShown (S.state spool.old) (D.state disk.old) now options.now (LimitIsPassed fault)) }
     ensures refused { IfErr result IsNoWriteFault }

@@ -1,16 +1,15 @@
 // An index is rebuilt.
-ghost use Rattle.std.specs.Prelude.{◌≡◌, ◌⊎◌, ◌≤◌, true, false, IfErr, IfOk, OnErr, OnOk};
+ghost use Rattle.std.specs.Prelude.{◌≡◌, ◌⊎◌, true, false, IfErr, IfOk, OnErr, OnOk};
 ghost use Rattle.base_devices.specs.Causes.{FaultHasCause};
-ghost use Rattle.base_devices.specs.CrashImages.{Image, IsDurable};
+ghost use Rattle.base_devices.specs.CrashImages.{IsDurable};
 ghost use Rattle.base_devices.specs.Frames.{KeepsFile, LeavesBetween};
 ghost use Rattle.base_devices.specs.HostCalls.{moment};
 ghost use Rattle.base_devices.specs.SpoolCalls.{GaveNoName, shown_files};
 ghost use Rattle.mail_rebuild.specs.OldFile.{IsDiskFault};
-ghost use Rattle.mail_rebuild.specs.Planning.{IsPlan};
 ghost use Rattle.mail_rebuild.specs.Rebuilds.{IsEarly, IsHostFault, IsWriteFault, LimitIsPassed, MayBeNew, PrintsSome, Rebuilds, WhereShown};
 ghost use Rattle.mail_rebuild.specs.Taking.{IsSpoolFault};
 
-use crate::planning::{Plan, prepare};
+use crate::planning::prepare;
 use crate::replacing::replace;
 use crate::{RebuildFault, Tally};
 use base_devices::{Host, Spool};
@@ -33,21 +32,28 @@ pub fn rebuild<H: Host, S: Spool>(
 
     // The report is printed, and the new index is read and durable.
     ensures rebuilt { IfOk result (λ tally.
-        WhereShown (S.state spool.old) (H.state host.old) now options.now (λ task. Rebuilds task
-        (moment (H.state host.old) (H.streams host.old)) (moment (H.state host.new) (H.streams host.new)) tally)) }
+        WhereShown (S.state spool.old) (H.state host.old) now options.now (λ task.
+        Rebuilds task (moment (H.state host.old) (H.streams host.old))
+        (moment (H.state host.new) (H.streams host.new)) tally)) }
     ensures durable { options.now.dry ≡ false → OnOk result (IsDurable (H.state host.new)) }
 
     // Wherever it stops, the index is one that could be left before, or the whole new one.
-    ensures any_moment { LeavesBetween (H.state host.old) (H.state host.new) (λ c. (H.state host.old).leaves c
-        ⊎ WhereShown (S.state spool.old) (H.state host.old) now options.now (MayBeNew c)) }
+    ensures any_moment { LeavesBetween (H.state host.old) (H.state host.new) (λ c.
+        (H.state host.old).leaves c ⊎ WhereShown (S.state spool.old) (H.state host.old)
+        now options.now (MayBeNew c)) }
     ensures dry { options.now.dry ≡ true → KeepsFile (H.state host.old) (H.state host.new) }
-    ensures refused { IfErr result (λ fault. IsDiskFault fault ⊎ KeepsFile (H.state host.old) (H.state host.new)) }
+    ensures dry_reads { options.now.dry ≡ true →
+        OnOk result ((H.state host.new).reads ≡ (H.state host.old).reads) }
+    ensures refused { IfErr result (λ fault. IsDiskFault fault
+        ⊎ KeepsFile (H.state host.old) (H.state host.new)) }
 
     // What a refusal has printed.
-    ensures silent { IfErr result (λ fault. IsEarly fault → H.streams host.new ≡ H.streams host.old) }
+    ensures silent { IfErr result (λ fault. IsEarly fault →
+        H.streams host.new ≡ H.streams host.old) }
     ensures prefix { OnErr result
-        (WhereShown (S.state spool.old) (H.state host.old) now options.now (λ task. PrintsSome task
-        (moment (H.state host.old) (H.streams host.old)) (moment (H.state host.new) (H.streams host.new)))) }
+        (WhereShown (S.state spool.old) (H.state host.old) now options.now (λ task.
+        PrintsSome task (moment (H.state host.old) (H.streams host.old))
+        (moment (H.state host.new) (H.streams host.new)))) }
 
     // Why it may be refused.
     ensures limit { IfErr result (λ fault.
