@@ -1,3 +1,11 @@
 mod MergeLemmas
 mod UidLemmas
 mod ReportLemmas
+mod PermutationLemmas
+mod FindingLemmas
+mod RebuiltLemmas
+mod FolderLemmas
+mod IndexLemmas
+mod TakingLemmas
+mod PlanLemmas
+mod RebuildLemmas

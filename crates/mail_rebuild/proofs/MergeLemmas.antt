@@ -19,7 +19,7 @@ abbrev pub RisesFrom : ℕ → List ℕ → Type 0
 RisesFrom n [] = Unit {0}
 RisesFrom n (m ∷ ms) = (n ≤ m) × RisesFrom (m + 1) ms
 
-rises_increasing : (n : ℕ) (ms : List ℕ) → RisesFrom n ms → (k : ℕ) → k + 1 < length ms → slice_index ms k < slice_index ms (k + 1)
+pub rises_increasing : (n : ℕ) (ms : List ℕ) → RisesFrom n ms → (k : ℕ) → k + 1 < length ms → slice_index ms k < slice_index ms (k + 1)
 rises_increasing n [] rises k within = absurd (omega (arith, within))
 rises_increasing n (m ∷ []) rises k within = absurd (omega (arith, within))
 rises_increasing n (m ∷ (l ∷ ls)) rises zero within = omega (arith, rises.1.0)
@@ -27,7 +27,7 @@ rises_increasing n (m ∷ (l ∷ ls)) rises (suc k) within =
     let e : suc k + 1 ≡ suc (k + 1) = omega arith in
     rw e (rises_increasing (m + 1) (l ∷ ls) rises.1 k (omega (arith, within)))
 
-increasing_rises : (n : ℕ) (ms : List ℕ) → (0 < length ms → n ≤ slice_index ms 0) → IsStrictlyIncreasing ms → RisesFrom n ms
+pub increasing_rises : (n : ℕ) (ms : List ℕ) → (0 < length ms → n ≤ slice_index ms 0) → IsStrictlyIncreasing ms → RisesFrom n ms
 increasing_rises n [] first is = tt
 increasing_rises n (m ∷ ms) first is = (first (omega arith), increasing_rises (m + 1) ms next later)
   where
@@ -65,7 +65,7 @@ usable_of-rises (Some view) = rises_sooner (map (λ r. r.uid) (usable_of (Some v
 -- ---- one step of a merge
 
 -- what holds of each of the three steps holds
-by_step : (name : List ℕ) (others : List IndexRecord → List Pair) (old : IndexRecord) (records : List IndexRecord) (P : List Pair → Type 0)
+pub by_step : (name : List ℕ) (others : List IndexRecord → List Pair) (old : IndexRecord) (records : List IndexRecord) (P : List Pair → Type 0)
     → (uid_in name < old.uid → P (name_alone name ∷ others (old ∷ records)))
     → (uid_in name ≡ old.uid → P (both name old ∷ others records))
     → (old.uid < uid_in name → P (record_alone old ∷ merged_behind name others records))
@@ -109,7 +109,7 @@ names_behind name names others each (old ∷ records) = by_step name others old 
     (λ _. ap (λ ns. name ∷ ns) (each records))
     (λ _. names_behind name names others each records)
 
-names_merged : (names : List (List ℕ)) (records : List IndexRecord) → filter_map (λ pair. pair.name) (merged names records) ≡ names
+pub names_merged : (names : List (List ℕ)) (records : List IndexRecord) → filter_map (λ pair. pair.name) (merged names records) ≡ names
 names_merged [] records = alone_names records
 names_merged (name ∷ names) records = names_behind name names (merged names) (names_merged names) records
 
@@ -123,7 +123,7 @@ records_behind name others each (old ∷ records) = by_step name others old reco
     (λ _. ap (λ rs. old ∷ rs) (each records))
     (λ _. ap (λ rs. old ∷ rs) (records_behind name others each records))
 
-records_merged : (names : List (List ℕ)) (records : List IndexRecord) → filter_map (λ pair. pair.old) (merged names records) ≡ records
+pub records_merged : (names : List (List ℕ)) (records : List IndexRecord) → filter_map (λ pair. pair.old) (merged names records) ≡ records
 records_merged [] records = alone_records records
 records_merged (name ∷ names) records = records_behind name (merged names) (records_merged names) records
 
@@ -143,7 +143,7 @@ together_behind name others each (old ∷ records) = by_step name others old rec
         let b : old ≡ o = cc in
         ap uid_in (sym a) ∙ same ∙ ap (λ (r : IndexRecord). r.uid) b
 
-together_merged : (names : List (List ℕ)) (records : List IndexRecord) → AllByRecursion HasOneUid (merged names records)
+pub together_merged : (names : List (List ℕ)) (records : List IndexRecord) → AllByRecursion HasOneUid (merged names records)
 together_merged [] records = alone_together records
 together_merged (name ∷ names) records = together_behind name (merged names) (together_merged names) records
 
@@ -158,7 +158,7 @@ rises_behind name names others each n (old ∷ records) first rest rises = by_st
     (λ same. (rises.0, each (old.uid + 1) records (rw same at rest) rises.1))
     (λ greater. (rises.0, rises_behind name names others each (old.uid + 1) records (omega (arith, greater)) rest rises.1))
 
-rises_merged : (names : List (List ℕ)) (n : ℕ) (records : List IndexRecord) → RisesFrom n (map uid_in names) → RisesFrom n (map (λ r. r.uid) records) → RisesFrom n (map uid_of (merged names records))
+pub rises_merged : (names : List (List ℕ)) (n : ℕ) (records : List IndexRecord) → RisesFrom n (map uid_in names) → RisesFrom n (map (λ r. r.uid) records) → RisesFrom n (map uid_of (merged names records))
 rises_merged [] n records names_rise rises = alone_rises n records rises
 rises_merged (name ∷ names) n records names_rise rises = rises_behind name names (merged names) (rises_merged names) n records names_rise.0 names_rise.1 rises
 

@@ -16,7 +16,7 @@ own : IsNumeralModel (AllDigits 10) (digits_value 10)
 own = numerals_by_value (AllDigits 10) tells_digits
 
 -- what stands before the dot of a message's name
-before_dot : (name : List ℕ) (uid : ℕ) → IsMessageName name uid → number_before_dot name ≡ uid
+pub before_dot : (name : List ℕ) (uid : ℕ) → IsMessageName name uid → number_before_dot name ≡ uid
 before_dot name uid is =
     let small : uid < 2 ^ 64 = omega (arith, is.most) in
     let size : length name - 1 ≡ length (decimal uid) = omega (arith, ap length is.spelled, length-append (decimal uid) (46 ∷ [])) in
@@ -30,13 +30,13 @@ same_text a b same = (slice_eq-Decides Decides-eqb a b (pointwise nat_eq a b) re
 pub text_same : (a b : List ℕ) → a ≡ b → pointwise nat_eq a b ≡ true
 text_same a b same = (slice_eq-Decides Decides-eqb a b (pointwise nat_eq a b) refl).1 same
 
-both_true : (a b : Bool) → (a && b) ≡ true → (a ≡ true) × (b ≡ true)
+pub both_true : (a b : Bool) → (a && b) ≡ true → (a ≡ true) × (b ≡ true)
 both_true true true h = (refl, refl)
 both_true true false h = absurd (cc)
 both_true false b h = absurd (cc)
 
 -- the test tells the names of messages
-tells_message : (name : List ℕ) (uid : ℕ) → IsMessageName name uid → is_message_name name ≡ true
+pub tells_message : (name : List ℕ) (uid : ℕ) → IsMessageName name uid → is_message_name name ≡ true
 tells_message name uid is =
     let number = before_dot name uid is in
     let spelled = text_same name (decimal uid ++ (46 ∷ [])) is.spelled in
@@ -44,7 +44,7 @@ tells_message name uid is =
     let most : uid ≤ 4294967295 = is.most in
     rw number (grind (arith, nat_tests, common_steps))
 
-tells_no_other : (name : List ℕ) → is_message_name name ≡ true → IsMessageName name (number_before_dot name)
+pub tells_no_other : (name : List ℕ) → is_message_name name ≡ true → IsMessageName name (number_before_dot name)
 tells_no_other name is =
     let parts = both_true (pointwise nat_eq name (decimal (number_before_dot name) ++ (46 ∷ [])) && nat_le 1 (number_before_dot name)) (nat_le (number_before_dot name) 4294967295) is in
     let first = both_true (pointwise nat_eq name (decimal (number_before_dot name) ++ (46 ∷ []))) (nat_le 1 (number_before_dot name)) parts.0 in

@@ -3,5 +3,10 @@ pub mod Rebuilt
 pub mod OldFile
 pub mod OldIndex
 pub mod Report
+pub mod Findings
 pub mod NewIndex
+pub mod Taking
+pub mod MadeReport
+pub mod Rebuilds
+pub mod Planning
 pub mod Examples

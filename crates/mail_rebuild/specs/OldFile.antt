@@ -22,3 +22,10 @@ IsReadRefusal main other = ⊥
 abbrev pub IsDiskFault : RebuildFault → Type 0
 IsDiskFault DiskFault = Unit {0}
 IsDiskFault other = ⊥
+
+-- a refusal to read it
+abbrev pub IsReadKind : RebuildFault → Type 0
+IsReadKind (TooBig size) = Unit {0}
+IsReadKind DiskFault = Unit {0}
+IsReadKind NoMemory = Unit {0}
+IsReadKind other = ⊥

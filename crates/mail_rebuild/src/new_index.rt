@@ -1,5 +1,5 @@
 // The new index, made message by message.
-ghost use Rattle.std.specs.Prelude.{◌≡◌, ◌<◌, ◌+◌, ◌==◌, ◌++◌, List, OnOk, codes, decimal, if◌then◌else◌};
+ghost use Rattle.std.specs.Prelude.{◌≡◌, ◌<◌, ◌+◌, ◌==◌, ◌++◌, List, OnOk, Some, None, codes, decimal, if◌then◌else◌};
 ghost use Rattle.base_devices.specs.SpoolCalls.{MessageFile};
 ghost use Rattle.index_form.specs.declared.record.IndexRecord.{IndexRecord};
 ghost use Rattle.index_form.specs.Totals.{AreTotals, greatest_uid};
@@ -7,7 +7,7 @@ ghost use Rattle.index_form.specs.Views.{record_of};
 ghost use Rattle.mail_scan.specs.Facts.{IsScanned};
 ghost use Rattle.mail_rebuild.specs.Rebuilt.{fresh_record as fresh_of, header_over, kept_record as kept_of, next_generation as generation_behind, uid_of_file, uidvalidity_of};
 
-use crate::records::{fresh_record, kept_record, limit32};
+use crate::records::{fresh_record, is_match, kept_record, limit32};
 use crate::report::{Tally, append, append_number};
 use base_bytes::NoMemory;
 use index_form::{
@@ -35,9 +35,16 @@ pub(crate) struct NewIndex {
 }
 
 impl NewIndex {
-    ghost use Rattle.mail_rebuild.specs.NewIndex.{AddsDropped, AddsFresh, AddsKept};
+    ghost use Rattle.std.specs.Prelude.{[], min};
+    ghost use Rattle.std.specs.Option.{option_map};
+    ghost use Rattle.mail_rebuild.specs.NewIndex.{AddsDropped, AddsFinding, AddsFresh, AddsKept, CountsOne, HasRoom, HoldsFindings, is_due, next_modseq};
 
-    pub(crate) fn new(alloc: Global, old: &IndexHeader, now: u64) -> NewIndex {
+    pub(crate) fn new(alloc: Global, old: &IndexHeader, now: u64) -> NewIndex
+        ensures holds { HoldsFindings [] result }
+        ensures modseq { result.modseq ≡ min (old.now.highestmodseq + 1) 18446744073709551615 }
+        ensures time { result.time ≡ now }
+        ensures counts { (result.totals.num_records ≡ 0) × (result.tally.dropped ≡ 0) }
+    {
         NewIndex {
             records: Vec::new(alloc),
             totals: Totals::new(),
@@ -56,8 +63,10 @@ impl NewIndex {
     // A message, with the record that it keeps.
     fn add_kept(&mut self, uid: u32, found: &Scanned, old: RecordView<'_>) -> Result<(), NoMemory>
         requires { self.old.totals.num_records < 4294967295 }
-        ensures { OnOk result ((file : MessageFile) → IsScanned file.bytes file.time found.now →
-            uid ≡ uid_of_file file → AddsKept (kept_of (record_of old.entry) file) self.old self.new) }
+        ensures added { OnOk result ((file : MessageFile) →
+            IsScanned file.bytes file.time found.now → uid ≡ uid_of_file file →
+            AddsKept (kept_of (record_of old.entry) file) self.old self.new) }
+        ensures counted { OnOk result (CountsOne self.old self.new) }
     {
         let made = kept_record(uid, found, old);
         append(&mut self.records, &write_record(&made))?;
@@ -69,9 +78,10 @@ impl NewIndex {
     // A message that keeps nothing, with what is said of it.
     fn add_fresh(&mut self, uid: u32, found: &Scanned, said: &str) -> Result<(), NoMemory>
         requires { self.old.totals.num_records < 4294967295 }
-        ensures { OnOk result ((file : MessageFile) → IsScanned file.bytes file.time found.now →
-            uid ≡ uid_of_file file →
+        ensures added { OnOk result ((file : MessageFile) →
+            IsScanned file.bytes file.time found.now → uid ≡ uid_of_file file →
             AddsFresh (fresh_of self.old.modseq self.old.time file) said.now self.old self.new) }
+        ensures counted { OnOk result (CountsOne self.old self.new) }
     {
         let made = fresh_record(uid, found, self.modseq, self.time);
         append(&mut self.records, &write_record(&made))?;
@@ -80,13 +90,74 @@ impl NewIndex {
         append_number(&mut self.lines, "uid ", uid as u64, said)
     }
 
+    // A message, and the record of its uid if there is one.
+    pub(crate) fn add_message(
+        &mut self,
+        uid: u32,
+        found: &Scanned,
+        old: Option<RecordView<'_>>,
+    ) -> Result<(), NoMemory>
+        requires { HasRoom self.old }
+        ensures added { OnOk result ((file : MessageFile) →
+            IsScanned file.bytes file.time found.now → uid ≡ uid_of_file file →
+            AddsFinding
+            (record { message = Some file; old = option_map record_of old.entry })
+            self.old self.new) }
+        ensures counted { OnOk result (CountsOne self.old self.new) }
+    {
+        match old {
+            None => self.add_fresh(uid, found, " new\n"),
+            Some(old) => self.add_both(uid, found, old),
+        }
+    }
+
+    // A message and the record of its uid.
+    fn add_both(&mut self, uid: u32, found: &Scanned, old: RecordView<'_>) -> Result<(), NoMemory>
+        requires { HasRoom self.old }
+        ensures added { OnOk result ((file : MessageFile) →
+            IsScanned file.bytes file.time found.now → uid ≡ uid_of_file file →
+            AddsFinding
+            (record { message = Some file; old = Some (record_of old.entry) }) self.old self.new) }
+        ensures counted { OnOk result (CountsOne self.old self.new) }
+    {
+        self.usable_uid = self.usable_uid.max(old.uid());
+        if is_match(found, old) {
+            self.add_kept(uid, found, old)
+        } else {
+            self.add_fresh(uid, found, " unmatched\n")
+        }
+    }
+
     // A usable record without a message.
-    pub(crate) fn add_dropped(&mut self, uid: u32) -> Result<(), NoMemory>
+    pub(crate) fn add_old(&mut self, old: RecordView<'_>) -> Result<(), NoMemory>
+        requires { HasRoom self.old }
+        ensures added { OnOk result (AddsFinding
+            (record { message = None; old = Some (record_of old.entry) }) self.old self.new) }
+        ensures counted { OnOk result (CountsOne self.old self.new) }
+    {
+        self.usable_uid = self.usable_uid.max(old.uid());
+        self.add_dropped(old.uid())
+    }
+
+    // The line on a usable record without a message.
+    fn add_dropped(&mut self, uid: u32) -> Result<(), NoMemory>
         requires { self.old.tally.dropped < 4294967295 }
         ensures { OnOk result (AddsDropped uid self.old self.new) }
     {
         self.tally.dropped += 1;
         append_number(&mut self.lines, "uid ", uid as u64, " dropped\n")
+    }
+
+    // The modification number of the rebuild, or None where one is due after the last.
+    pub(crate) fn modseq_over(&self, old: &IndexHeader, is_whole: bool) -> Option<u64>
+        ensures { result ≡ next_modseq old.now.highestmodseq (is_due is_whole self.now.tally) }
+    {
+        let changed = self.tally.fresh as u64 + self.tally.dropped as u64;
+        if !is_whole || changed > 0 {
+            old.highestmodseq.checked_add(1)
+        } else {
+            Some(old.highestmodseq)
+        }
     }
 
     // The header over the new records.

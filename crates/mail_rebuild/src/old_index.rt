@@ -1,13 +1,13 @@
 // The old index is read, whatever it holds.
-ghost use Rattle.std.specs.Prelude.{◌≡◌, ◌<◌, ℕ, Some, None, IfOk, IfErr, IsSome};
+ghost use Rattle.std.specs.Prelude.{◌≡◌, ◌<◌, ◌≤◌, ℕ, Some, None, IfOk, IfErr, IfSome, IsSome, length};
 ghost use Rattle.std.specs.Option.{option_map};
 ghost use Rattle.base_bytes.specs.declared.limits.TheConstants.{SKIP_LIMIT};
 ghost use Rattle.base_devices.specs.Causes.{FaultHasCause};
 ghost use Rattle.base_devices.specs.CrashImages.{Image, WhereRead};
 ghost use Rattle.base_devices.specs.DiskCalls.{IsLength};
 ghost use Rattle.base_devices.specs.Frames.{MayLeaveLess};
-ghost use Rattle.mail_rebuild.specs.OldIndex.{IsOldIndex};
-ghost use Rattle.mail_rebuild.specs.OldFile.{IsReadRefusal, IsDiskFault};
+ghost use Rattle.mail_rebuild.specs.OldIndex.{IsOldIndex, IsShort, view_of};
+ghost use Rattle.mail_rebuild.specs.OldFile.{IsDiskFault, IsReadKind, IsReadRefusal};
 ghost use Rattle.mail_rebuild.specs.Rebuilt.{old_header, whole_index};
 ghost use Rattle.index_form.specs.Views.{file_of};
 
@@ -64,8 +64,10 @@ pub(crate) fn read_old<D: Disk>(
         (λ main. main ≡ option_map (λ bytes. bytes.items) file)) }
     ensures refused { IfErr result (λ fault. WhereRead (D.state disk.old)
         (λ main. IsReadRefusal main fault)) }
+    ensures kind { IfErr result IsReadKind }
     ensures cause { FaultHasCause IsDiskFault (D.state disk.old).faults (D.state disk.new).faults
         result }
+    ensures short { IfOk result (λ file. IfSome file (λ bytes. length bytes.items ≤ SKIP_LIMIT)) }
     ensures same { IfOk result (λ _. (D.state disk.new).reads ≡ (D.state disk.old).reads) }
     ensures leaves { MayLeaveLess (D.state disk.old) (D.state disk.new) }
     ensures rest { D.disk_rest disk.old disk.new }
@@ -90,7 +92,8 @@ pub(crate) fn read_old<D: Disk>(
 
 // What these bytes are of an index.
 pub(crate) fn old_index(file: Option<&[u8]>) -> OldIndex<'_>
-    ensures { IsOldIndex (option_map (λ bytes. bytes.now) file.entry) result }
+    ensures is { IsOldIndex (option_map (λ bytes. bytes.now) file.entry) result }
+    ensures short { IfSome file.entry (λ bytes. length bytes.now ≤ SKIP_LIMIT) → IsShort result }
 {
     match file {
         None => OldIndex::Absent,
@@ -104,7 +107,8 @@ pub(crate) fn old_index(file: Option<&[u8]>) -> OldIndex<'_>
 impl<'a> OldIndex<'a> {
     // The index, where it is there and without a fault.
     pub(crate) fn view(&self) -> Option<IndexView<'a>>
-        ensures { (image : Image) → IsOldIndex image self.now →
+        ensures view { result ≡ view_of self.now }
+        ensures whole { (image : Image) → IsOldIndex image self.now →
             option_map file_of result ≡ whole_index image }
     {
         match self {

@@ -1,0 +1,3 @@
+// Folders in memory whose indexes are rebuilt.
+mod indexes;
+mod rows;
