@@ -1,0 +1,6 @@
+pub mod FieldLemmas
+pub mod PartLemmas
+pub mod HeldLemmas
+pub mod GatherLemmas
+pub mod LineLemmas
+pub mod AnswerLemmas
