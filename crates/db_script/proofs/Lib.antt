@@ -4,3 +4,5 @@ pub mod HeldLemmas
 pub mod GatherLemmas
 pub mod LineLemmas
 pub mod AnswerLemmas
+pub mod ReplyLemmas
+pub mod RefusalLemmas

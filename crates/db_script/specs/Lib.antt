@@ -3,3 +3,7 @@ pub mod Lines
 pub mod Buffers
 pub mod Held
 pub mod Reading
+pub mod Replies
+pub mod Scripts
+pub mod Doing
+pub mod Batch
