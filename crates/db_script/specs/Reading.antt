@@ -5,7 +5,8 @@ use Rattle.base_devices.specs.Causes.{FaultHasCause}
 use Rattle.base_source.specs.SourceCalls.{SourceState}
 use Rattle.db_script.specs.Fields.{before, behind}
 use Rattle.db_script.specs.Held.{held_in, IsInputFault}
-use Rattle.db_script.specs.Lines.{Command, lines_of, read_line}
+use Rattle.db_script.specs.Lines.{Command, command_of, lines_of, read_line}
+use Rattle.db_script.specs.declared.line.Line.{Line}
 use Rattle.db_script.specs.declared.script.Script.{Script}
 use Rattle.db_script.specs.declared.script.ScriptFault.{ScriptFault}
 use Rattle.db_script.specs.declared.script.ScriptFault.TheVariants.{TooLong, BadLine, NoMemory, InputFault}
@@ -78,6 +79,28 @@ AnswersLine said s t script rest (Err (BadLine number)) =
     Refuses (λ line. (s.size + length line ≤ SCRIPT_LIMIT) × (read_line (before 10 line) ≡ None) × (number ≡ s.lines + 1)) s t script rest
 AnswersLine said s t script rest (Err NoMemory) = (rest ≡ script) × SameLines s t
 AnswersLine said s t script rest (Err InputFault) = (rest ≡ script) × SameLines s t × (behind 10 t.held ≡ None)
+
+-- The first line of a script, where it asks for this.
+pub record Asks (s : ScriptState) (script : List ℕ) (command : Command) : Type 0 where
+  pub line : List ℕ
+  pub first : IsFirst script line
+  pub asks : read_line (before 10 line) ≡ Some command
+  pub within : s.size + length line ≤ SCRIPT_LIMIT
+
+-- the first line of a script is refused for this
+pub record IsRefused (P : List ℕ → Type 0) (script : List ℕ) : Type 0 where
+  pub line : List ℕ
+  pub first : IsFirst script line
+  pub why : P line
+
+-- what is answered where this is to come, whatever comes after it
+abbrev pub SaysLine : ScriptState → List ℕ → Result (Option Line) ScriptFault → Type 0
+SaysLine s script (Ok None) = script ≡ []
+SaysLine s script (Ok (Some line)) = Asks s script (command_of line)
+SaysLine s script (Err TooLong) = IsRefused (λ line. SCRIPT_LIMIT < s.size + length line) script
+SaysLine s script (Err (BadLine number)) =
+    IsRefused (λ line. (s.size + length line ≤ SCRIPT_LIMIT) × (read_line (before 10 line) ≡ None) × (number ≡ s.lines + 1)) script
+SaysLine s script (Err fault) = Unit {0}
 
 -- The next line of a script, whose fields spell what was said.
 pub record ReadsLine {T : Type 0} (said : T → Command) (s t : ScriptState) (a b : SourceState) (result : Result (Option T) ScriptFault) : Type 0 where

@@ -64,12 +64,13 @@ fn extent_of(held: &[u8]) -> Extent
 }
 
 impl Script {
-    ghost use Rattle.std.specs.Prelude.{◌≡◌, ◌⊎◌, ◌≤◌, ◌<◌, ◌+◌, [], ℕ, List, true, false, None, OnOk, IfOk, IfErr, IfSome, IsOk, not, length, take};
+    ghost use Rattle.std.specs.Prelude.{◌≡◌, ◌⊎◌, ◌≤◌, ◌<◌, ◌+◌, [], ℕ, List, true, false, None, Some, OnOk, IfOk, IfErr, IfSome, IsOk, not, length, take};
     ghost use Rattle.base_bytes.specs.declared.limits.TheConstants.{SCRIPT_LIMIT};
     ghost use Rattle.db_script.specs.Fields.{behind};
     ghost use Rattle.db_script.specs.Lines.{command_of};
+    ghost use Rattle.base_devices.specs.Causes.{FaultHasCause};
     ghost use Rattle.db_script.specs.Held.{IsFound, IsInputFault, found_in};
-    ghost use Rattle.db_script.specs.Reading.{AnswersLine, Gathers, ReadsLine, is_gathered, script_state, to_come};
+    ghost use Rattle.db_script.specs.Reading.{AnswersLine, Gathers, ReadsLine, SaysLine, is_gathered, script_state, to_come};
 
     /// A script of which nothing was read.
     pub fn new(alloc: Global) -> Script
@@ -198,5 +199,24 @@ impl Script {
         ensures { command_of result ≡ found_in self.now.buffer found }
     {
         self.buffer.line(found)
+    }
+
+    /// The next line, or None at the script's end, as `advance` and `line` give it. A line's fields are slices of the
+    /// script's own buffer, so the script is not to be used while the line is.
+    pub fn next_line<'a, I: Source>(
+        &'a mut self,
+        input: &mut I,
+    ) -> Result<Option<Line<'a>>, ScriptFault>
+        ensures says { (left : List ℕ) → (I.state input.old).left ≡ Some left
+            → SaysLine (script_state self.old) (to_come (script_state self.old) left) result }
+        ensures cause { FaultHasCause IsInputFault (I.state input.old).faults
+            (I.state input.new).faults result }
+        ensures still { is_gathered (script_state self.old) ≡ true → input.new ≡ input.old }
+    {
+        match self.advance(input) {
+            Ok(Some(found)) => Ok(Some(self.line(found))),
+            Ok(None) => Ok(None),
+            Err(fault) => Err(fault),
+        }
     }
 }
