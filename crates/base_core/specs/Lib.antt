@@ -13,3 +13,4 @@ pub use Rattle.base_devices.specs.SpoolCalls
 pub use Rattle.base_devices.specs.Time
 pub use Rattle.base_devices.specs.Untold
 pub use Rattle.base_notes.specs.Notes
+pub use Rattle.base_source.specs.SourceCalls

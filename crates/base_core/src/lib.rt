@@ -1,5 +1,5 @@
 //! The shared types and the device traits under one name, for programs that use the crates of this repository
-//! as libraries. They stand in three crates, which the crates here name directly: so an edit of a note's text
+//! as libraries. They stand in four crates, which the crates here name directly: so an edit of a note's text
 //! proves no format anew, and an edit of a device trait no message.
 #![tactic(auto)]
 
@@ -16,3 +16,4 @@ pub use base_notes::{
     STATUS_BAD_LINE, STATUS_DAMAGED, STATUS_DEVICE_FAULT, STATUS_DONE, STATUS_EXISTS, STATUS_LIMIT,
     STATUS_NEGATIVE, STATUS_NO_MEMORY, STATUS_USAGE,
 };
+pub use base_source::Source;

@@ -9,3 +9,4 @@ pub use Rattle.mem_devices.specs.Memory
 pub use Rattle.mem_devices.specs.Past
 pub use Rattle.mem_spool.specs.MemFiles
 pub use Rattle.mem_spool.specs.MemSpool
+pub use Rattle.mem_source.specs.MemSource

@@ -1,0 +1,13 @@
+use Rattle.std.proofs.Common.{◌∷◌, ◌++◌, []}
+use Rattle.std.specs.Prelude.{codes}
+use Rattle.base_bytes.specs.Escapes.{escaped}
+use Rattle.db_tool.proofs.PrintLemmas.{prints_then, prints_ended}
+use Rattle.db_script.proofs.replying.print_value.Goals as goal
+
+pub returns-in-Err-clause-prints : goal.returns-in-Err-clause-prints
+returns-in-Err-clause-prints g c = prints_ended _ _ (codes "VALUE\t") (escaped c.args.value.now ++ (10 ∷ [])) c.in-Err.fault c.in-Err.ensures.prints
+
+pub returns-clause-prints : goal.returns-clause-prints
+returns-clause-prints g c =
+    let on = g.met.H.Host.host_goes_on in
+    prints_then _ _ _ (codes "VALUE\t") (escaped c.args.value.now ++ (10 ∷ [])) tt c.print_field.result (on _ _ c.print.ensures.rest) (on _ _ c.print_field.ensures.rest) c.in_default.ensures.prints c.print_field.ensures.prints

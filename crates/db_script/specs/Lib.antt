@@ -1,0 +1,9 @@
+pub mod Fields
+pub mod Lines
+pub mod Buffers
+pub mod Held
+pub mod Reading
+pub mod Replies
+pub mod Scripts
+pub mod Doing
+pub mod Batch

@@ -1,0 +1,295 @@
+// A script is done line by line.
+ghost use Rattle.std.specs.Prelude.{◌≡◌, ◌⊎◌, ◌+◌, true, false, Option, None, Result, IfSome, IfOk, IfErr, OnOk};
+ghost use Rattle.base_notes.specs.Notes.{status_of};
+ghost use Rattle.base_notes.specs.declared.note.Device.TheVariants.{Host, Input};
+ghost use Rattle.base_notes.specs.declared.note.Note.TheVariants.{DeviceFault};
+ghost use Rattle.db_core.specs.Sessions.{over};
+ghost use Rattle.db_script.specs.Batch.{GoesWell, NamesScriptDevice, end_note, found_or_note, note_of_answer, note_or_done, script_note};
+ghost use Rattle.db_script.specs.Held.{IsFound, found_in};
+ghost use Rattle.db_script.specs.Reading.{ReadsLine, is_gathered, script_state};
+ghost use Rattle.db_script.specs.declared.buffer.Found.{Found};
+ghost use Rattle.db_script.specs.declared.script.ScriptFault.{ScriptFault};
+ghost use Rattle.db_script.specs.Lines.{command_of};
+ghost use Rattle.db_script.specs.Scripts.{words_behind};
+ghost use Rattle.db_tool.specs.ToolNotes.{Faults, IsFault};
+
+use crate::buffer::Found;
+use crate::doing::{act, is_placed};
+use crate::line::Line;
+use crate::printing::flush;
+use crate::replying::reply;
+use crate::script::{Script, ScriptFault};
+use base_bytes::{Piece, SCRIPT_LIMIT};
+use base_devices::Host;
+use base_notes::{Device, LimitName, Note, Outcome};
+use base_source::Source;
+use db_core::Db;
+use db_tool::{HOST_FAULT, note_of_change};
+use rand_core::Rng;
+use std::alloc::Global;
+
+// The random word of a line: only a pair that is to be put takes one.
+fn word_for<R: Rng>(line: &Line<'_>, rng: &mut R) -> u32
+    ensures { R.stream rng.new ≡ words_behind (command_of line.now) (R.stream rng.old) }
+{
+    match line {
+        Line::Set { .. } => rng.next_u32(),
+        _ => 0,
+    }
+}
+
+// Does a line and gathers its reply. It answers the note with which the script ends there, or None where it goes on.
+fn do_line<H: Host, B: Db<H>>(
+    alloc: Global,
+    number: u64,
+    word: u32,
+    line: &Line<'_>,
+    db: &mut B,
+    host: &mut H,
+    output: &mut Piece,
+) -> Option<Note>
+    requires sound { (B.state db.old).is_broken ≡ false }
+    requires tied { B.tie db.old host.old }
+    ensures well { GoesWell B.kind (over (H.state host.old) (B.state db.old))
+        (over (H.state host.new) (B.state db.new)) (note_or_done result) }
+    ensures device { IfSome result (λ note. IsFault note → note ≡ DeviceFault Host) }
+    ensures tied { B.tie db.new host.new }
+    ensures rest { H.host_rest host.old host.new }
+{
+    let in_transaction = db.in_transaction();
+    if !is_placed(in_transaction, line) {
+        return Some(Note::BadLine { line: number });
+    }
+    if let Err(fault) = act(alloc, word, line, db, host) {
+        return Some(note_of_change(Device::Host, fault));
+    }
+    match reply(in_transaction, line, db, host, output) {
+        Ok(()) => None,
+        Err(_) => Some(HOST_FAULT),
+    }
+}
+
+// Ends a script that no device cut off: what is gathered is printed, and an open transaction is given up.
+fn finish<H: Host, B: Db<H>>(note: Note, db: &mut B, host: &mut H, output: &mut Piece) -> Note
+    requires whole { IsFault note → ⊥ }
+    requires sound { (B.state db.old).is_broken ≡ false }
+    requires tied { B.tie db.old host.old }
+    ensures well { GoesWell B.kind (over (H.state host.old) (B.state db.old))
+        (over (H.state host.new) (B.state db.new)) result }
+    ensures same { (IsFault result → ⊥) → result ≡ note }
+    ensures device { IsFault result → result ≡ DeviceFault Host }
+    ensures closed { (IsFault result → ⊥) → (B.state db.new).in_transaction ≡ false }
+    ensures tied { B.tie db.new host.new }
+    ensures rest { H.host_rest host.old host.new }
+{
+    if flush(host, output).is_err() {
+        return HOST_FAULT;
+    }
+    if db.in_transaction() && db.abort(host).is_err() {
+        return HOST_FAULT;
+    }
+    note
+}
+
+// The note of a script whose end is reached. In a transaction the line after its last is wrong.
+fn note_at_end(in_transaction: bool, number: u64) -> Note
+    ensures { result ≡ end_note in_transaction number }
+{
+    if in_transaction {
+        return Note::BadLine { line: number };
+    }
+    Note::Done
+}
+
+// The note of a script that gives no line.
+fn note_of_script(fault: ScriptFault) -> Note
+    ensures { result ≡ script_note fault }
+{
+    match fault {
+        ScriptFault::TooLong => Note::Limit {
+            limit: LimitName::Script,
+            number: SCRIPT_LIMIT + 1,
+        },
+        ScriptFault::BadLine { line } => Note::BadLine { line },
+        ScriptFault::NoMemory => Note::Memory,
+        ScriptFault::InputFault => Note::DeviceFault {
+            device: Device::Input,
+        },
+    }
+}
+
+// Ends a script with this note. After a fault of a device no other call is made.
+fn stop<H: Host, B: Db<H>>(note: Note, db: &mut B, host: &mut H, output: &mut Piece) -> Note
+    requires sound { (IsFault note → ⊥) → (B.state db.old).is_broken ≡ false }
+    requires tied { B.tie db.old host.old }
+    ensures fault { IsFault note → (result ≡ note) × (host.new ≡ host.old) × (db.new ≡ db.old) }
+    ensures well { (IsFault note → ⊥) → GoesWell B.kind (over (H.state host.old) (B.state db.old))
+        (over (H.state host.new) (B.state db.new)) result }
+    ensures same { (IsFault result → ⊥) → result ≡ note }
+    ensures device { IsFault result → (result ≡ DeviceFault Host) ⊎ (result ≡ note) }
+    ensures closed { (IsFault result → ⊥) → (B.state db.new).in_transaction ≡ false }
+    ensures tied { B.tie db.new host.new }
+    ensures rest { H.host_rest host.old host.new }
+{
+    match note {
+        Note::DeviceFault { .. } => note,
+        _ => finish(note, db, host, output),
+    }
+}
+
+// Does a line, and ends the script where it is not done.
+fn do_or_stop<H: Host, B: Db<H>>(
+    alloc: Global,
+    number: u64,
+    word: u32,
+    line: &Line<'_>,
+    db: &mut B,
+    host: &mut H,
+    output: &mut Piece,
+) -> Option<Note>
+    requires sound { (B.state db.old).is_broken ≡ false }
+    requires tied { B.tie db.old host.old }
+    ensures well { GoesWell B.kind (over (H.state host.old) (B.state db.old))
+        (over (H.state host.new) (B.state db.new)) (note_or_done result) }
+    ensures device { IfSome result (λ note. IsFault note → note ≡ DeviceFault Host) }
+    ensures closed { IfSome result (λ note. (IsFault note → ⊥)
+        → (B.state db.new).in_transaction ≡ false) }
+    ensures tied { B.tie db.new host.new }
+    ensures rest { H.host_rest host.old host.new }
+{
+    match do_line(alloc, number, word, line, db, host, output) {
+        Some(note) => Some(stop(note, db, host, output)),
+        None => None,
+    }
+}
+
+// The next line, or the note with which the script ends before it.
+fn next_found<I: Source>(
+    script: &mut Script,
+    in_transaction: bool,
+    input: &mut I,
+) -> Result<Found, Note>
+    ensures reads { (answer : Result (Option Found) ScriptFault)
+        × ReadsLine (found_in script.new.buffer) (script_state script.old) (script_state script.new)
+        (I.state input.old) (I.state input.new) answer
+        × (result ≡ found_or_note in_transaction (script_state script.old).lines answer) }
+    ensures found { IfOk result (IsFound script.new.buffer) }
+    ensures lines { OnOk result ((script_state script.new).lines
+        ≡ (script_state script.old).lines + 1) }
+    ensures note { IfErr result (λ note. IsFault note → note ≡ DeviceFault Input) }
+    ensures faults { Faults Input (note_of_answer result)
+        (I.state input.old).faults (I.state input.new).faults }
+    ensures still { is_gathered (script_state script.old) ≡ true → input.new ≡ input.old }
+{
+    let number = script.lines() + 1;
+    match script.advance(input) {
+        Ok(Some(found)) => Ok(found),
+        Ok(None) => Err(note_at_end(in_transaction, number)),
+        Err(fault) => Err(note_of_script(fault)),
+    }
+}
+
+// Does the next line, or ends the script. What is gathered is printed before more of the script is read.
+fn do_next<H: Host, B: Db<H>, I: Source, R: Rng>(
+    alloc: Global,
+    script: &mut Script,
+    output: &mut Piece,
+    db: &mut B,
+    host: &mut H,
+    input: &mut I,
+    rng: &mut R,
+) -> Option<Note>
+    requires sound { (B.state db.old).is_broken ≡ false }
+    requires tied { B.tie db.old host.old }
+    ensures well { GoesWell B.kind (over (H.state host.old) (B.state db.old))
+        (over (H.state host.new) (B.state db.new)) (note_or_done result) }
+    ensures input { Faults Input (note_or_done result)
+        (I.state input.old).faults (I.state input.new).faults }
+    ensures device { IfSome result NamesScriptDevice }
+    ensures closed { IfSome result (λ note. (IsFault note → ⊥)
+        → (B.state db.new).in_transaction ≡ false) }
+    ensures lines { result ≡ None → (script_state script.new).lines
+        ≡ (script_state script.old).lines + 1 }
+    ensures tied { B.tie db.new host.new }
+    ensures rest { H.host_rest host.old host.new }
+{
+    if script.needs_input() && flush(host, output).is_err() {
+        return Some(HOST_FAULT);
+    }
+    let number = script.lines() + 1;
+    match next_found(script, db.in_transaction(), input) {
+        Ok(found) => {
+            let line = script.line(found);
+            let word = word_for(&line, rng);
+            do_or_stop(alloc, number, word, &line, db, host, output)
+        }
+        Err(note) => Some(stop(note, db, host, output)),
+    }
+}
+
+// Does the lines of a script in turn.
+fn do_lines<H: Host, B: Db<H>, I: Source, R: Rng>(
+    alloc: Global,
+    output: &mut Piece,
+    db: &mut B,
+    host: &mut H,
+    input: &mut I,
+    rng: &mut R,
+) -> Note
+    requires sound { (B.state db.old).is_broken ≡ false }
+    requires tied { B.tie db.old host.old }
+    ensures well { GoesWell B.kind (over (H.state host.old) (B.state db.old))
+        (over (H.state host.new) (B.state db.new)) result }
+    ensures input { Faults Input result (I.state input.old).faults (I.state input.new).faults }
+    ensures device { NamesScriptDevice result }
+    ensures closed { (IsFault result → ⊥) → (B.state db.new).in_transaction ≡ false }
+    ensures tied { B.tie db.new host.new }
+    ensures rest { H.host_rest host.old host.new }
+{
+    let mut script = Script::new(alloc);
+    for _ in 0..SCRIPT_LIMIT + 1 {
+        if let Some(note) = do_next(alloc, &mut script, output, db, host, input, rng) {
+            return note;
+        }
+    }
+    unreachable!()
+}
+
+/// Does the lines of a script, and prints the reply of each before more of the script is read. A committing line's reply
+/// is printed only after its commit.
+///
+/// A line that is wrong, or whose change is refused, ends the script: the open transaction is given up, what was printed
+/// stands, and the line has no reply. After a failed call no other call is made, so that an open transaction then
+/// stays in the file as unfinished, which the next opening removes. No memory is asked for between a commit and its reply.
+pub fn batch<H: Host, B: Db<H>, I: Source, R: Rng>(
+    alloc: Global,
+    db: &mut B,
+    host: &mut H,
+    input: &mut I,
+    rng: &mut R,
+) -> Outcome
+    requires sound { (B.state db.old).is_broken ≡ false }
+    requires closed { (B.state db.old).in_transaction ≡ false }
+    requires tied { B.tie db.old host.old }
+
+    // The host and the source failed exactly where the note says so, once, and no other device is named.
+    ensures well { GoesWell B.kind (over (H.state host.old) (B.state db.old))
+        (over (H.state host.new) (B.state db.new)) result.note }
+    ensures input { Faults Input result.note
+        (I.state input.old).faults (I.state input.new).faults }
+    ensures device { NamesScriptDevice result.note }
+
+    ensures closed { (IsFault result.note → ⊥) → (B.state db.new).in_transaction ≡ false }
+    ensures status { result.status ≡ status_of result.note }
+    ensures tied { B.tie db.new host.new }
+    ensures rest { H.host_rest host.old host.new }
+{
+    let note = match Piece::new(alloc) {
+        Ok(mut output) => do_lines(alloc, &mut output, db, host, input, rng),
+        Err(_) => Note::Memory,
+    };
+    Outcome {
+        status: note.status(),
+        note,
+    }
+}

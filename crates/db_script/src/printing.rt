@@ -1,0 +1,90 @@
+// Replies are gathered, and printed in large pieces.
+ghost use Rattle.std.specs.Prelude.{◌≡◌, ◌≤◌, ◌+◌, ◌++◌, ◌∷◌, [], IsOk, OnOk, length};
+ghost use Rattle.base_bytes.specs.Escapes.{escaped};
+ghost use Rattle.base_bytes.specs.declared.limits.TheConstants.{PIECE_SIZE};
+ghost use Rattle.db_tool.specs.Printing.{Prints, holding};
+
+use base_bytes::Piece;
+use base_devices::{Failed, Host};
+
+// Prints what is gathered, if anything.
+pub(crate) fn flush<H: Host>(host: &mut H, output: &mut Piece) -> Result<(), Failed>
+    ensures prints { Prints [] (holding output.old (H.state host.old) (H.streams host.old))
+        (holding output.new (H.state host.new) (H.streams host.new)) result }
+    ensures empty { OnOk result (output.new ≡ []) }
+    ensures nothing { output.old ≡ [] → IsOk result × (host.new ≡ host.old) }
+    ensures rest { H.host_rest host.old host.new }
+{
+    if output.as_slice().is_empty() {
+        return Ok(());
+    }
+    if let Err(fault) = host.tell(output.as_slice()) {
+        return Err(fault);
+    }
+    output.clear();
+    Ok(())
+}
+
+// Prints what is gathered where it leaves no room for two bytes.
+fn make_room<H: Host>(host: &mut H, output: &mut Piece) -> Result<(), Failed>
+    ensures prints { Prints [] (holding output.old (H.state host.old) (H.streams host.old))
+        (holding output.new (H.state host.new) (H.streams host.new)) result }
+    ensures room { OnOk result (length output.new + 2 ≤ PIECE_SIZE) }
+    ensures rest { H.host_rest host.old host.new }
+{
+    if output.room() < 2 {
+        return flush(host, output);
+    }
+    Ok(())
+}
+
+// Prints the bytes: they are gathered, and printed in full pieces as they come.
+pub(crate) fn print<H: Host>(host: &mut H, bytes: &[u8], output: &mut Piece) -> Result<(), Failed>
+    ensures prints { Prints bytes.now (holding output.old (H.state host.old) (H.streams host.old))
+        (holding output.new (H.state host.new) (H.streams host.new)) result }
+    ensures rest { H.host_rest host.old host.new }
+{
+    let mut at = 0;
+    while at < bytes.len() {
+        if let Err(fault) = make_room(host, output) {
+            return Err(fault);
+        }
+        at += output.add(&bytes[at..]);
+    }
+    Ok(())
+}
+
+// Prints a field, each byte escaped, and the byte that ends it.
+pub(crate) fn print_field<H: Host>(
+    host: &mut H,
+    field: &[u8],
+    end: u8,
+    output: &mut Piece,
+) -> Result<(), Failed>
+    ensures prints { Prints (escaped field.now ++ end ∷ [])
+        (holding output.old (H.state host.old) (H.streams host.old))
+        (holding output.new (H.state host.new) (H.streams host.new)) result }
+    ensures rest { H.host_rest host.old host.new }
+{
+    if let Err(fault) = print_escaped(host, field, output) {
+        return Err(fault);
+    }
+    print(host, &[end], output)
+}
+
+// Prints bytes, each escaped.
+fn print_escaped<H: Host>(host: &mut H, field: &[u8], output: &mut Piece) -> Result<(), Failed>
+    ensures prints { Prints (escaped field.now)
+        (holding output.old (H.state host.old) (H.streams host.old))
+        (holding output.new (H.state host.new) (H.streams host.new)) result }
+    ensures rest { H.host_rest host.old host.new }
+{
+    let mut at = 0;
+    while at < field.len() {
+        if let Err(fault) = make_room(host, output) {
+            return Err(fault);
+        }
+        at += output.add_escaped(&field[at..]);
+    }
+    Ok(())
+}

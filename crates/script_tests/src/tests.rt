@@ -1,0 +1,4 @@
+// Whole scripts over devices in memory.
+mod faults;
+mod scripts;
+mod steps;
