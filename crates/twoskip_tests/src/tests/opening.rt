@@ -188,7 +188,11 @@ fn assert_made(
 ) -> Result<(), Fail> {
     let mut disk = disk_of(alloc, main, &[call])?;
     let made = create(&mut disk);
-    let wanted = if answer.is_ok() { Some(EMPTY.as_slice()) } else { main };
+    let wanted = if answer.is_ok() {
+        Some(EMPTY.as_slice())
+    } else {
+        main
+    };
     let is_wanted = disk.main() == wanted;
     assert_eq!(rt; (made, is_wanted), (answer, true), "call {call}");
     Ok(())
