@@ -26,3 +26,17 @@ not_built words job is none = by (is_built job) (sym (ap (option_and_then if_bui
     by : (b : Bool) → (if b then Some job else None) ≡ None → b ≡ false
     by true found = absurd (cc found)
     by false found = refl
+
+-- what holds of each kind holds of the job
+pub on_each : (g : Given) (P : Asked → Type 0) → ((asked : Asked) → P asked) → (job : Job) → OnDatabase g P job
+on_each g P all (Dbtool make file Flat action) = all (asking flat_kind make action g)
+on_each g P all (Dbtool make file Twoskip action) = all (asking skip_kind make action g)
+on_each g P all job = tt
+
+-- the built job of the words is their job, and is built
+pub built_is : (words : List (List ℕ)) (job other : Job) → job_of words ≡ Some job → built_job_of words ≡ Some other → (job ≡ other) × (is_built job ≡ true)
+built_is words job other is built = by (is_built job) refl (sym (ap (option_and_then if_built) is) ∙ built)
+  where
+    by : (b : Bool) → is_built job ≡ b → (if b then Some job else None) ≡ Some other → (job ≡ other) × (is_built job ≡ true)
+    by true so found = (cc found, so)
+    by false so found = absurd (cc found)

@@ -40,8 +40,8 @@ fn check<H: Host, B: Db<H> + Drop, F: Files<H, B>>(alloc: Global, host: &mut H) 
         (moment (H.state host.new) (H.streams host.new)) result }
     ensures rest { H.host_rest host.old host.new }
 {
-    let fault = match F::check_db(alloc, host) {
-        Ok(_) => return end_with(host, "consistent\n", Note::Done),
+    let fault = match F::verify_db(alloc, host) {
+        Ok(()) => return end_with(host, "consistent\n", Note::Done),
         Err(fault) => fault,
     };
     match flaw_of(fault) {

@@ -1,8 +1,10 @@
 // What a backend does with its files: they are made, opened and looked through.
-ghost use Rattle.std.specs.Prelude.{◌≡◌, IfOk};
+ghost use Rattle.std.specs.Prelude.{◌≡◌, IfErr, IfOk, OnOk};
+ghost use Rattle.base_bytes.specs.OrderedMap.{Map};
 ghost use Rattle.base_devices.specs.Causes.{FaultHasCause, HasCause};
+ghost use Rattle.base_devices.specs.CrashImages.{WhereRead};
 ghost use Rattle.base_devices.specs.Frames.{MayReplace, Replaces, StaysAs};
-ghost use Rattle.db_core.specs.Opening.{ChecksAs, IsDeviceFault, OpensAs, OpensDisk};
+ghost use Rattle.db_core.specs.Opening.{IsDeviceFault, IsOpenRefusal, OpensAs, OpensDisk};
 
 use base_devices::{Failed, Host};
 use db_core::{Db, OpenFault};
@@ -28,9 +30,12 @@ pub(crate) trait Files<H: Host, B: Db<H>> {
         ensures tied { IfOk result (λ db. B.tie db host.new) }
         ensures rest { H.disk_rest host.old host.new };
 
-    /// How many pairs the main file has. It only reads.
-    fn check_db(alloc: Global, host: &mut H) -> Result<u64, OpenFault>
-        ensures checks { ChecksAs B.kind (H.state host.old) result }
+    /// Whether the main file opens, by the same tests. It only reads.
+    fn verify_db(alloc: Global, host: &mut H) -> Result<(), OpenFault>
+        ensures opens { OnOk result (WhereRead (H.state host.old)
+            (λ main. (m : Map) × B.kind.opens main m)) }
+        ensures refused { IfErr result (λ fault. WhereRead (H.state host.old)
+            (λ main. IsOpenRefusal B.kind main fault)) }
         ensures cause { FaultHasCause IsDeviceFault (H.state host.old).faults
             (H.state host.new).faults result }
         ensures fresh { (H.state host.new).fresh ≡ (H.state host.old).fresh }
@@ -50,8 +55,8 @@ impl<H: Host> Files<H, FlatDb> for FlatFiles {
         flat_db::open_db(alloc, host)
     }
 
-    fn check_db(alloc: Global, host: &mut H) -> Result<u64, OpenFault> {
-        flat_db::check_db(alloc, host)
+    fn verify_db(alloc: Global, host: &mut H) -> Result<(), OpenFault> {
+        flat_db::verify_db(alloc, host)
     }
 }
 
@@ -67,7 +72,8 @@ impl<H: Host> Files<H, Twoskip> for TwoskipFiles {
         twoskip::open_db(alloc, host)
     }
 
-    fn check_db(alloc: Global, host: &mut H) -> Result<u64, OpenFault> {
-        twoskip::check_db(alloc, host)
+    fn verify_db(alloc: Global, host: &mut H) -> Result<(), OpenFault> {
+        twoskip::check_db(alloc, host)?;
+        Ok(())
     }
 }

@@ -18,14 +18,13 @@ const WRONG: [&str; 33] = [
     // no other backend
     "cyr_dbtool f skiplist set b 2",
     "cyr_dbtool f skiplist show",
-    "cyr_dbtool f twoskip set b 2",
-    "cyr_dbtool f twoskip show",
-    "cyr_dbtool -n f twoskip show",
+    "cyr_dbtool -n f skiplist show",
     "cyr_dbtool f Flat show",
     // no other action
     "cyr_dbtool f flat put b 2",
     "cyr_dbtool f flat repack",
     "cyr_dbtool f flat batch",
+    "cyr_dbtool f twoskip repack",
     "cyr_dbtool f flat SHOW",
     // a word too few or too many
     "cyr_dbtool f flat get",

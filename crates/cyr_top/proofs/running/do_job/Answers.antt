@@ -5,5 +5,5 @@ use Rattle.cyr_top.proofs.running.do_job.Goals as goal
 pub on_files-requires-clause-laws : goal.on_files-requires-clause-laws
 on_files-requires-clause-laws g c = flat_laws
 
-pub on_files-2-requires-clause-laws : goal.on_files-2-requires-clause-laws
-on_files-2-requires-clause-laws g c = skip_laws
+pub on_files-requires-in-Dbtool-default-default-Twoskip-default-clause-laws : goal.on_files-requires-in-Dbtool-default-default-Twoskip-default-clause-laws
+on_files-requires-in-Dbtool-default-default-Twoskip-default-clause-laws g c = skip_laws
