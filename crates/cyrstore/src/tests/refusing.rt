@@ -5,7 +5,7 @@ use std::process::Abort;
 use std::test::Fail;
 
 // Lines of words, the name of the tool included.
-const WRONG: [&str; 33] = [
+const WRONG: [&str; 32] = [
     "",
     "cyr_dbtool",
     "cyr_dbtool -n",
