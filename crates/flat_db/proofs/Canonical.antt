@@ -30,7 +30,7 @@ says_some [] text rest says = All-nil (λ p. p.0 ≢ [])
 says_some (p ∷ pairs) text rest says = All-cons (λ p. p.0 ≢ []) p pairs says.3.some (says_some pairs says.1 rest says.4)
 
 -- what stands in order is put behind one another
-ends_push : (before : Map) (p : List ℕ × List ℕ) (key : List ℕ) → EndsBelow before p.0 → IsBelow p.0 key → EndsBelow (before ++ (p ∷ [])) key
+pub ends_push : (before : Map) (p : List ℕ × List ℕ) (key : List ℕ) → EndsBelow before p.0 → IsBelow p.0 key → EndsBelow (before ++ (p ∷ [])) key
 ends_push [] p key ends below = (below, tt)
 ends_push (q ∷ before) p key ends below = (below_then q.0 p.0 key ends.0 below, ends_push before p key ends.1 below)
 

@@ -10,6 +10,7 @@ pub mod PairLemmas
 pub mod PlaceLemmas
 pub mod PlainLemmas
 pub mod SessionLemmas
+pub mod ShowingLemmas
 pub mod Sizes
 pub mod TextLaws
 pub mod UnescapedLemmas

@@ -1,7 +1,7 @@
 -- Fields and lines that are written as they stand.
 use Rattle.std.proofs.Common.{◌≡◌, ◌≢◌, ℕ, zero, suc, ◌+◌, ◌-◌, ◌<◌, ◌≤◌, true, Bool, List, [], ◌∷◌, ◌++◌, length, get_or, take, drop, refl, sym, ◌∙◌, ap, subst, append_assoc, arith}
 use Rattle.std.specs.Prelude.{flat_map}
-use Rattle.std.proofs.lemmas.List.{take-append-drop, drop_more, drop-drop, length-drop, length-take-le, get_or-drop, get_or-take, map_push, append-nil}
+use Rattle.std.proofs.lemmas.List.{take_all, take_at, take-append-drop, drop_more, drop-drop, length-drop, length-take-le, get_or-drop, get_or-take, map_push, append-nil}
 use Rattle.base_bytes.specs.Escapes.{escaped_byte, escaped}
 use Rattle.memchr.specs.Find.{Nowhere, Passes, is_byte2, is_byte3}
 use Rattle.flat_db.specs.FlatText.{pair_line, canonical_text, HasLine, SaysPair}
@@ -9,7 +9,7 @@ use Rattle.flat_db.specs.Entries.{part_of, pair_of, pairs_of}
 use Rattle.flat_db.specs.Plain.{IsPlain, HasWritten, Stands}
 use Rattle.flat_db.specs.declared.pairs.Entry.{Entry}
 use Rattle.flat_db.proofs.Canonical.{line_then, has_line, says_line}
-use Rattle.flat_db.proofs.Sizes.{text_then}
+use Rattle.flat_db.proofs.Sizes.{text_then, line_length}
 
 -- a byte that is none of those that are escaped
 byte_stands : (byte : ℕ) → (is_byte3 255 0 13 byte ≡ true → ⊥) → (is_byte2 9 10 byte ≡ true → ⊥) → escaped_byte byte ≡ byte ∷ []
@@ -73,20 +73,54 @@ line_stands text at key_size size below is_tab is_end key_stands value_stands =
     ∙ ap (λ (l : List ℕ). key ++ (9 ∷ (l ++ (10 ∷ rest)))) value_stands
     )
 
+-- a field of such bytes
+whole_stands : (field : List ℕ) → Stands field → escaped field ≡ field
+whole_stands field stands =
+    let all = take_all (length field) field (omega arith) in
+    ap escaped (sym all) ∙ front_stands (length field) field stands ∙ all
+
+-- a line that stands as it is written
+as_it_stands : (text : List ℕ) (at key_size size n : ℕ) → n ≡ key_size + size + 2 → at + key_size + 1 + size < length text → get_or text (at + key_size) 0 ≡ 9 → get_or text (at + key_size + 1 + size) 0 ≡ 10
+    → Stands (take key_size (drop at text)) → Stands (take size (drop (at + key_size + 1) text)) → take n (drop at text) ≡ pair_line (take key_size (drop at text)) (take size (drop (at + key_size + 1) text))
+as_it_stands text at key_size size n is below is_tab is_end key_stands value_stands =
+    let key = take key_size (drop at text) in
+    let value = take size (drop (at + key_size + 1) text) in
+    let rest = drop (at + key_size + 1 + size + 1) text in
+    let k = whole_stands key key_stands in
+    let v = whole_stands value value_stands in
+    let key_long = length-take-le key_size (drop at text) (omega (arith, below, length-drop at text)) in
+    let value_long = length-take-le size (drop (at + key_size + 1) text) (omega (arith, below, length-drop (at + key_size + 1) text)) in
+    ap (take n) (line_stands text at key_size size below is_tab is_end k v)
+    ∙ take_at (pair_line key value) rest n (omega (arith, is, line_length key value, ap length k, ap length v, key_long, value_long))
+
+-- the same, by where its value begins
+pub line_of_entry : (text : List ℕ) (entry : Entry) (n : ℕ) → entry.value.start ≡ entry.key.start + entry.key.size + 1 → n ≡ entry.key.size + entry.value.size + 2 → entry.value.start + entry.value.size < length text
+    → get_or text (entry.key.start + entry.key.size) 0 ≡ 9 → get_or text (entry.value.start + entry.value.size) 0 ≡ 10 → Stands (part_of text entry.key) → Stands (part_of text entry.value)
+    → take n (drop entry.key.start text) ≡ pair_line (part_of text entry.key) (part_of text entry.value)
+line_of_entry text entry n follows is =
+    let at = entry.key.start in
+    let key_size = entry.key.size in
+    let size = entry.value.size in
+    subst (λ (from : ℕ). from + size < length text → get_or text (at + key_size) 0 ≡ 9 → get_or text (from + size) 0 ≡ 10 → Stands (take key_size (drop at text)) → Stands (take size (drop from text)) → take n (drop at text) ≡ pair_line (take key_size (drop at text)) (take size (drop from text)))
+    (sym follows) (as_it_stands text at key_size size n is)
+
 -- The line whose key ends by the first TAB or LF of a plain part, a TAB, and whose value ends by the next one, an LF.
 pub written_line : (text : List ℕ) (at to key_size size m n : ℕ) → m ≡ key_size → n ≡ size → 0 < key_size → at + key_size + 1 + size < to → to ≤ length text → IsPlain text at to
     → Nowhere (Passes (is_byte2 9 10) (take (to - at) (drop at text))) 0 key_size → Nowhere (Passes (is_byte2 9 10) (take (to - (at + key_size + 1)) (drop (at + key_size + 1) text))) 0 size
     → get_or text (at + key_size) 0 ≡ 9 → get_or text (at + key_size + 1 + size) 0 ≡ 10
     → HasWritten text at (record { entry = record { key = record { start = at; size = m }; value = record { start = at + key_size + 1; size = n } }; next = at + key_size + 1 + size + 1; is_plain = true })
-written_line text at to key_size size m n same_key same_value some below within plain key_free value_free is_tab is_end = record {
-  within = omega (arith, below, within);
-  some = λ none. omega (arith, some, same_key, ap length none, length-take-le m (drop at text) (omega (arith, below, within, same_key, length-drop at text)));
-  written = subst (λ (i : ℕ). drop at text ≡ pair_line (take i (drop at text)) (take n (drop (at + key_size + 1) text)) ++ drop (at + key_size + 1 + size + 1) text) (sym same_key) (subst (λ (i : ℕ). drop at text ≡ pair_line (take key_size (drop at text)) (take i (drop (at + key_size + 1) text)) ++ drop (at + key_size + 1 + size + 1) text) (sym same_value)
-      (line_stands text at key_size size (omega (arith, below, within)) is_tab is_end
-      (part_stands text at (to - at) key_size to (omega (arith, below)) (omega (arith, below)) within plain key_free)
-      (part_stands text (at + key_size + 1) (to - (at + key_size + 1)) size to (omega (arith, below)) (omega (arith, below)) within (λ k from less is. plain k (omega (arith, from)) less is) value_free)));
-  ends = record { key = omega (arith, same_key); value = omega (arith, same_value) };
-}
+written_line text at to key_size size m n same_key same_value some below within plain key_free value_free is_tab is_end =
+    let key = part_stands text at (to - at) key_size to (omega (arith, below)) (omega (arith, below)) within plain key_free in
+    let value = part_stands text (at + key_size + 1) (to - (at + key_size + 1)) size to (omega (arith, below)) (omega (arith, below)) within (λ k from less is. plain k (omega (arith, from)) less is) value_free in
+    record {
+      within = omega (arith, below, within);
+      some = λ none. omega (arith, some, same_key, ap length none, length-take-le m (drop at text) (omega (arith, below, within, same_key, length-drop at text)));
+      written = subst (λ (i : ℕ). drop at text ≡ pair_line (take i (drop at text)) (take n (drop (at + key_size + 1) text)) ++ drop (at + key_size + 1 + size + 1) text) (sym same_key) (subst (λ (i : ℕ). drop at text ≡ pair_line (take key_size (drop at text)) (take i (drop (at + key_size + 1) text)) ++ drop (at + key_size + 1 + size + 1) text) (sym same_value)
+          (line_stands text at key_size size (omega (arith, below, within)) is_tab is_end key value));
+      ends = record { key = omega (arith, same_key); value = omega (arith, same_value) };
+      key_stands = subst (λ (i : ℕ). escaped (take i (drop at text)) ≡ take i (drop at text)) (sym same_key) key;
+      value_stands = subst (λ (i : ℕ). escaped (take i (drop (at + key_size + 1) text)) ≡ take i (drop (at + key_size + 1) text)) (sym same_value) value;
+    }
 
 -- such a line says its pair
 pub stands_says : (text : List ℕ) (at next : ℕ) (entry : Entry) → part_of text entry.key ≢ [] → drop at text ≡ pair_line (part_of text entry.key) (part_of text entry.value) ++ drop next text

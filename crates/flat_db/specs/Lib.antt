@@ -1,4 +1,5 @@
 pub mod Entries
+pub mod Filling
 pub mod Finding
 pub mod FlatText
 pub mod Kept
@@ -9,4 +10,5 @@ pub mod Places
 pub mod Plain
 pub mod Reading
 pub mod Sessions
+pub mod Showing
 pub mod Writing

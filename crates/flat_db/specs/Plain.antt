@@ -1,7 +1,7 @@
 -- What is written as it stands.
 use Rattle.std.specs.Prelude.{◌≡◌, ◌≢◌, ℕ, ◌<◌, ◌≤◌, List, [], ◌∷◌, ◌++◌, length, drop, slice_index}
 use Rattle.memchr.specs.Find.{Nowhere, Passes, is_byte, is_byte3}
-use Rattle.base_bytes.specs.Escapes.{escaped_byte}
+use Rattle.base_bytes.specs.Escapes.{escaped, escaped_byte}
 use Rattle.flat_db.specs.FlatText.{pair_line}
 use Rattle.flat_db.specs.Entries.{EndsBy, part_of}
 use Rattle.flat_db.specs.declared.lines.Line.{Line}
@@ -24,3 +24,6 @@ pub record HasWritten (text : List ℕ) (at : ℕ) (line : Line) : Type 0 where
   pub some : part_of text line.entry.key ≢ []
   pub written : drop at text ≡ pair_line (part_of text line.entry.key) (part_of text line.entry.value) ++ drop line.next text
   pub ends : EndsBy line.next line.entry
+  -- and its fields are written as they are
+  pub key_stands : escaped (part_of text line.entry.key) ≡ part_of text line.entry.key
+  pub value_stands : escaped (part_of text line.entry.value) ≡ part_of text line.entry.value

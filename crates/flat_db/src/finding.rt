@@ -1,5 +1,5 @@
 // One key is looked for in a text, of which no map is made.
-ghost use Rattle.std.specs.Prelude.{◌≡◌, ◌≤◌, cond, ℕ, Some, IfOk, IfErr, length};
+ghost use Rattle.std.specs.Prelude.{◌≡◌, ◌≢◌, ◌≤◌, cond, true, ℕ, Some, IfOk, IfErr, length};
 ghost use Rattle.std.specs.BTreeMap.{is_at};
 ghost use Rattle.std.specs.Option.{option_map};
 ghost use Rattle.base_bytes.specs.OrderedMap.{key_order};
@@ -12,11 +12,23 @@ use crate::lines::{any_line, unescaped_end};
 use crate::pairs::{Entry, Span, part};
 use base_bytes::{Damage, compare_keys};
 
-// Whether two keys are the same. Most differ in size already.
+// Whether the last bytes of two keys of one size differ.
+fn ends_differ(key: &[u8], other: &[u8]) -> bool
+    requires { length key.now ≡ length other.now }
+    ensures { result ≡ true → key.now ≢ other.now }
+{
+    let size = key.len();
+    size > 0 && key[size - 1] != other[size - 1]
+}
+
+// Whether two keys are the same. Most differ in size already or in their last byte, since neighbours begin alike.
 fn is_same(key: &[u8], other: &[u8]) -> bool
     ensures { result ≡ is_at (key_order key.now) other.now }
 {
     if key.len() != other.len() {
+        return false;
+    }
+    if ends_differ(key, other) {
         return false;
     }
     compare_keys(key, other).is_eq()

@@ -156,7 +156,7 @@ pub(crate) fn plain_end(text: &[u8], at: usize, known: usize) -> usize
 
 // The line that begins at an offset, where it ends before `plain` and is written as its pair is.
 #[inline(always)]
-fn plain_line(text: &[u8], at: usize, plain: usize) -> Option<Line>
+pub(crate) fn plain_line(text: &[u8], at: usize, plain: usize) -> Option<Line>
     requires ordered { at ≤ plain }
     requires within { plain ≤ length text.now }
     requires short { length text.now ≤ 4294967295 }

@@ -1,10 +1,10 @@
 // A map is written as its canonical text, in pieces, into the new file of a disk.
-ghost use Rattle.std.specs.Prelude.{◌≡◌, ◌<◌, ◌≤◌, ◌+◌, ◌-◌, ◌∷◌, ◌++◌, [], true, IsSome, OnOk, length, take};
+ghost use Rattle.std.specs.Prelude.{◌≡◌, ◌<◌, ◌≤◌, ◌+◌, ◌-◌, ◌∷◌, ◌++◌, [], true, false, IsSome, IfSome, OnOk, length, take, drop};
 ghost use Rattle.std.specs.Result.{IsOk};
 ghost use Rattle.base_bytes.specs.Escapes.{escaped, escaped_byte};
 ghost use Rattle.base_bytes.specs.declared.limits.TheConstants.{PIECE_SIZE};
 ghost use Rattle.base_devices.specs.CrashImages.{Shows};
-ghost use Rattle.flat_db.specs.Entries.{pairs_of};
+ghost use Rattle.flat_db.specs.Entries.{pairs_of, part_of};
 ghost use Rattle.flat_db.specs.FlatText.{canonical_text, pair_line};
 ghost use Rattle.flat_db.specs.Plain.{Stands};
 ghost use Rattle.flat_db.specs.Writing.{AddsBytes, Gathers, filling};
@@ -119,7 +119,7 @@ fn write_part<D: Disk>(disk: &mut D, field: &[u8], end: u8, piece: &mut Piece) -
 }
 
 // Writes the line of a pair.
-fn write_line<D: Disk>(
+pub(crate) fn write_line<D: Disk>(
     disk: &mut D,
     key: &[u8],
     value: &[u8],
@@ -134,6 +134,70 @@ fn write_line<D: Disk>(
 {
     write_part(disk, key, b'\t', piece)?;
     write_part(disk, value, b'\n', piece)
+}
+
+// The size of the line of an entry, where it stands among the bytes as its pair is written.
+fn standing_size(bytes: &[u8], entry: Entry) -> Option<usize>
+    ensures within { IfSome result (λ size. entry.key.start + size ≤ length bytes.now) }
+    ensures line { IfSome result (λ size. take size (drop entry.key.start bytes.now)
+        ≡ pair_line (part_of bytes.now entry.key) (part_of bytes.now entry.value)) }
+{
+    let start = entry.key.start as usize;
+    let tab = start + entry.key.size as usize;
+    let end = entry.value.start as usize + entry.value.size as usize;
+    if entry.value.start as usize != tab + 1 || end >= bytes.len() {
+        return None;
+    }
+    if bytes[tab] != b'\t' || bytes[end] != b'\n' {
+        return None;
+    }
+    if !field_stands(part(bytes, entry.key)) || !field_stands(part(bytes, entry.value)) {
+        return None;
+    }
+    Some(end + 1 - start)
+}
+
+// Gathers the line of an entry in one piece, where it stands among the bytes as it is written and leaves room. Answers
+// whether it did.
+fn gather_line(bytes: &[u8], entry: Entry, piece: &mut Piece) -> bool
+    ensures gathered { result ≡ true → piece.new
+        ≡ piece.old ++ pair_line (part_of bytes.now entry.key) (part_of bytes.now entry.value) }
+    ensures none { result ≡ false → piece.new ≡ piece.old }
+{
+    let Some(size) = standing_size(bytes, entry) else {
+        return false;
+    };
+    if size >= piece.room() {
+        return false;
+    }
+    let start = entry.key.start as usize;
+    piece.add(&bytes[start..start + size]);
+    true
+}
+
+// Writes the line of an entry's pair.
+fn write_entry<D: Disk>(
+    disk: &mut D,
+    bytes: &[u8],
+    entry: Entry,
+    piece: &mut Piece,
+) -> Result<(), Failed>
+    requires { Shows (D.state disk.old) → IsSome (D.state disk.old).fresh }
+    ensures adds { AddsBytes (pair_line (part_of bytes.now entry.key) (part_of bytes.now entry.value))
+        (filling (D.state disk.old) piece.old) (filling (D.state disk.new) piece.new) result }
+    ensures gathers { Gathers (pair_line (part_of bytes.now entry.key) (part_of bytes.now entry.value))
+        (disk.old, piece.old) (disk.new, piece.new) result }
+    ensures rest { D.disk_rest disk.old disk.new }
+{
+    if gather_line(bytes, entry, piece) {
+        return Ok(());
+    }
+    write_line(
+        disk,
+        part(bytes, entry.key),
+        part(bytes, entry.value),
+        piece,
+    )
 }
 
 /// Adds the canonical text of some pairs to the new file: to what is gathered, and in full pieces as they come.
@@ -151,12 +215,7 @@ pub(crate) fn write_pairs<D: Disk>(
     ensures rest { D.disk_rest disk.old disk.new }
 {
     for entry in entries {
-        write_line(
-            disk,
-            part(bytes, entry.key),
-            part(bytes, entry.value),
-            piece,
-        )?;
+        write_entry(disk, bytes, *entry, piece)?;
     }
     Ok(())
 }
