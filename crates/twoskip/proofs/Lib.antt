@@ -1,3 +1,4 @@
+pub mod DrawLemmas
 mod EmptyFile
 pub mod OpeningLemmas
 pub mod SettlingLemmas

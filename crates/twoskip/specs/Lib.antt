@@ -1,2 +1,3 @@
+pub mod Filling
 pub mod Opening
 pub mod TieLaws

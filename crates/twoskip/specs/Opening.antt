@@ -1,14 +1,12 @@
 -- A file that was read, what settling it does, and what opening does to its disk.
-use Rattle.std.specs.Prelude.{◌≡◌, ◌⊎◌, ℕ, ◌≤◌, Bool, true, List, Some, Result, OnOk, IfErr, length}
+use Rattle.std.specs.Prelude.{◌≡◌, ℕ, ◌≤◌, Bool, true, List, Some, length}
 use Rattle.base_bytes.specs.Fields.{AreBytes}
 use Rattle.base_bytes.specs.OrderedMap.{Map}
 use Rattle.base_bytes.specs.declared.limits.TheConstants.{SKIP_LIMIT}
 use Rattle.base_devices.specs.CrashImages as devices
 use Rattle.base_devices.specs.CrashImages.{DiskState, IsDurable, LeavesOnly, Shows, WhereRead}
 use Rattle.base_devices.specs.Frames.{MayLeaveLess}
-use Rattle.db_core.specs.Opening.{IsDamage, IsDeviceFault, SameMap}
 use Rattle.db_core.specs.Sessions.{DbKind, at_rest}
-use Rattle.db_core.specs.declared.opening.OpenFault.{OpenFault}
 use Rattle.skip_spec.specs.FirstFlaw.{end_of}
 use Rattle.skip_spec.specs.Opens.{Contents, Opens, Reads, Tidy}
 use Rattle.skip_lists.specs.Tie.{LeavesEach}
