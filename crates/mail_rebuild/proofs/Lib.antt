@@ -9,3 +9,4 @@ mod IndexLemmas
 mod TakingLemmas
 mod PlanLemmas
 mod RebuildLemmas
+pub mod ContentsLemmas

@@ -21,11 +21,13 @@ use Rattle.mail_rebuild.specs.Findings.{Finding, Rises, RisesBy, dropped_from, f
 use Rattle.mail_rebuild.specs.Merging.{HasOneUid, Pair, merged, uid_of, usable_of}
 use Rattle.mail_rebuild.specs.Planning.{IsListed, IsMadeOf, IsPlanRefusal, PlansFor, contents_of}
 use Rattle.mail_rebuild.specs.NewIndex.{is_due, next_modseq}
-use Rattle.mail_rebuild.specs.Rebuilds.{AreContents, Contents, Counts, LimitIsPassed, Task}
+use Rattle.mail_rebuild.specs.Rebuilds.{AreContents, Contents, Counts, IsWithinSizes, LimitIsPassed, Task}
 use Rattle.mail_rebuild.specs.Rebuilt.{change_is_due, dropped, fresh, header_over, is_message, modseq_of, old_header, rebuilt_header, rebuilt_records, uid_of_file, usable_in, whole_index}
 use Rattle.mail_rebuild.specs.Taking.{IsNumbered, IsSpoolFault, IsTaken, NamesFile, odd_of}
 use Rattle.std.proofs.Common.{Result, Ok, Err, ◌⊎◌, inr}
-use Rattle.std.specs.Prelude.{IfErr, OnOk}
+use Rattle.std.specs.Prelude.{IfErr, IfSome, OnOk}
+use Rattle.std.proofs.Common.{true≢false}
+use Rattle.base_bytes.specs.declared.limits.TheConstants.{FILES_LIMIT, SKIP_LIMIT}
 use Rattle.std.proofs.lemmas.Bool.Decides.{nat_tests}
 use Rattle.base_devices.specs.Causes.{FaultHasCause, Rose}
 use Rattle.base_notes.specs.declared.action.Options.{Options}
@@ -38,7 +40,7 @@ use Rattle.mail_rebuild.specs.declared.old_index.OldIndex.{OldIndex}
 use Rattle.mail_rebuild.specs.declared.old_index.OldIndex.TheVariants.{Absent, Damaged, Whole}
 use Rattle.mail_rebuild.specs.declared.planning.Plan.{Plan}
 use Rattle.mail_rebuild.specs.MadeReport.{report_of}
-use Rattle.mail_rebuild.specs.OldFile.{IsReadKind, IsReadRefusal}
+use Rattle.mail_rebuild.specs.OldFile.{IsReadKind, IsReadRefusal, IsTooBig}
 use Rattle.mail_rebuild.specs.OldIndex.{IsOldIndex, view_of}
 use Rattle.mail_rebuild.specs.Report.{line_of_uid, report}
 use Rattle.mail_rebuild.proofs.FindingLemmas.{IsLookedUp, all_looked_up}
@@ -58,6 +60,13 @@ listed_few s files names limit shown lists = go s.folder refl shown
         let listed = lists folder e in
         let given = length_permutation _ _ listed.sorted_out.all in
         omega (arith, listed.few, given, length-map folder.files (λ (f : MessageFile). f.name), length-append names.messages (names.odd ++ listed.sorted_out.passed_over))
+
+pub files_few : (s : SpoolState) (files : List MessageFile) (names : Names) (limit : ℕ) → shown_files s ≡ Some files → ((folder : Folder) → s.folder ≡ Some folder → ListsFolder folder limit names) → length files ≤ limit
+files_few s files names limit shown lists = go s.folder refl shown
+  where
+    go : (f : Option Folder) → s.folder ≡ f → shown_files (record { folder = f; faults = s.faults }) ≡ Some files → length files ≤ limit
+    go None e is = absurd (cc)
+    go (Some folder) e is = let same : folder.files ≡ files = cc in subst (λ (fs : List MessageFile). length fs ≤ limit) same (lists folder e).few
 
 pub is_listed : (s : SpoolState) (files : List MessageFile) (names : Names) (limit : ℕ) → shown_files s ≡ Some files → ((folder : Folder) → s.folder ≡ Some folder → ListsFolder folder limit names)
     → ((folder : Folder) → s.folder ≡ Some folder → HasDistinctNames folder.files) → IsInOrder names → IsListed files names
@@ -250,6 +259,15 @@ next_full last true none = go (nat_lt last 18446744073709551615) refl none
     go true e is = absurd (cc)
     go false e is = (grind (arith, nat_tests, e), refl)
 
+-- where there is a number, it is not due after the last one
+next_not_full : (last number : ℕ) (due : Bool) → next_modseq last due ≡ Some number → 18446744073709551615 ≤ last → due ≡ true → ⊥
+next_not_full last number false some full is = true≢false (sym is)
+next_not_full last number true some full is = go (nat_lt last 18446744073709551615) refl some
+  where
+    go : (b : Bool) → nat_lt last 18446744073709551615 ≡ b → (if b then Some (last + 1) else None) ≡ Some number → ⊥
+    go true e found = grind (arith, nat_tests, e, full)
+    go false e found = absurd (cc)
+
 -- the number of the rebuild, and that by which fresh records are made
 next_is : (last number : ℕ) (due : Bool) → next_modseq last due ≡ Some number → (number ≡ last + (if due then 1 else 0)) × (due ≡ true → min (last + 1) 18446744073709551615 ≡ number)
 next_is last number false some = (let same : last ≡ number = cc in omega (arith, same), λ e. absurd (cc))
@@ -353,6 +371,7 @@ plan_is options old now found made view h number plan is whole header_is next te
       text = text ∙ report_is options old now found made is;
       bytes = λ i. header_bytes (whole_header i) ++ (records ∙ is.holds.bytes ∙ ap (flat_map record_bytes) rs) i;
       tally = rw tally counts;
+      number = λ is_full. next_not_full _ _ _ next_due is_full.last is_full.due;
     }
 
 pub view_is : (old : Image) (index : OldIndex) → IsOldIndex old index → option_map file_of (view_of index) ≡ whole_index old
@@ -362,23 +381,33 @@ view_is old (Whole view) is = rw (is.0, is.1) refl
 
 -- ---- refusals
 
-pub limit_passed : (fault : RebuildFault) (task : Task) (contents : Contents) → AreContents task.files task.old contents → IsPlanRefusal task.old contents.messages fault → LimitIsPassed fault task
-limit_passed SpoolFault task contents are is = tt
-limit_passed TooMany task contents are is = absurd is
-limit_passed (TooBig size) task contents are is = absurd is
-limit_passed ModseqFull task contents are is = (contents, are, is)
-limit_passed DiskFault task contents are is = tt
-limit_passed WriteFault task contents are is = tt
-limit_passed NoMemory task contents are is = tt
+pub limit_passed : (fault : RebuildFault) (task : Task) (contents : Contents) → IsWithinSizes task → AreContents task.files task.old contents → IsPlanRefusal task.old contents.messages fault → LimitIsPassed fault task
+limit_passed SpoolFault task contents sizes are is = tt
+limit_passed TooMany task contents sizes are is = absurd is
+limit_passed (TooBig size) task contents sizes are is = absurd is
+limit_passed ModseqFull task contents sizes are is = (sizes, contents, are, is)
+limit_passed DiskFault task contents sizes are is = tt
+limit_passed WriteFault task contents sizes are is = tt
+limit_passed NoMemory task contents sizes are is = tt
 
-pub read_limit : (fault : RebuildFault) (task : Task) → IsReadRefusal task.old fault → LimitIsPassed fault task
-read_limit SpoolFault task is = tt
-read_limit TooMany task is = absurd is
-read_limit (TooBig size) task is = is
-read_limit ModseqFull task is = absurd is
-read_limit DiskFault task is = tt
-read_limit WriteFault task is = tt
-read_limit NoMemory task is = tt
+pub read_limit : (fault : RebuildFault) (task : Task) → length task.files ≤ FILES_LIMIT → IsReadRefusal task.old fault → LimitIsPassed fault task
+read_limit SpoolFault task few is = tt
+read_limit TooMany task few is = absurd is
+read_limit (TooBig size) task few is = (few, is)
+read_limit ModseqFull task few is = absurd is
+read_limit DiskFault task few is = tt
+read_limit WriteFault task few is = tt
+read_limit NoMemory task few is = tt
+
+-- a file that was read is not too big
+pub sizes_are : {T : Type 0} (task : Task) (bytes_in : T → List ℕ) (file : Option T) → length task.files ≤ FILES_LIMIT → task.old ≡ option_map bytes_in file → IfSome file (λ b. length (bytes_in b) ≤ SKIP_LIMIT) → IsWithinSizes task
+sizes_are {T} task bytes_in file few read short = record { few = few; small = λ size big. go file read short size big }
+  where
+    go : (f : Option T) → task.old ≡ option_map bytes_in f → IfSome f (λ b. length (bytes_in b) ≤ SKIP_LIMIT) → (size : ℕ) → IsTooBig task.old size → ⊥
+    go None e is size big = absurd (cc (sym e ∙ big.there))
+    go (Some b) e is size big =
+        let same : bytes_in b ≡ big.bytes = cc (sym e ∙ big.there) in
+        omega (arith, is, big.over, big.counted, ap length same)
 
 pub no_spool_fault : (fault : RebuildFault) → IsReadKind fault → IsSpoolFault fault → ⊥
 no_spool_fault SpoolFault kind is = kind

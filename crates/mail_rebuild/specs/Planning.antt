@@ -45,6 +45,7 @@ pub record PlansFor (options : Options) (old : Image) (now : ℕ) (contents : Co
   pub text : plan.text.items ≡ report options old contents.messages contents.uids contents.odd
   pub bytes : header_bytes plan.header ++ plan.records.items ≡ rebuilt old contents.messages now
   pub tally : Counts old contents.messages plan.tally
+  pub number : IsModseqFull old contents.messages → ⊥
 
 -- a number is due after the last one, or memory ran out
 abbrev pub IsPlanRefusal : Image → List MessageFile → RebuildFault → Type 0

@@ -82,12 +82,23 @@ pub record IsModseqFull (old : Image) (messages : List MessageFile) : Type 0 whe
   pub last : 18446744073709551615 ≤ (old_header (whole_index old)).highestmodseq
   pub due : change_is_due old messages ≡ true
 
--- a refusal for a number says which limit is passed
+-- the folder has no more files, and the old index no more bytes, than they may have
+pub record IsWithinSizes (task : Task) : Type 0 where
+  pub few : length task.files ≤ FILES_LIMIT
+  pub small : (size : ℕ) → IsTooBig task.old size → ⊥
+
+-- a refusal for a number says which limit is passed, the first one of these three
 abbrev pub LimitIsPassed : RebuildFault → Task → Type 0
 LimitIsPassed TooMany task = FILES_LIMIT < length task.files
-LimitIsPassed (TooBig size) task = IsTooBig task.old size
-LimitIsPassed ModseqFull task = (contents : Contents) × AreContents task.files task.old contents × IsModseqFull task.old contents.messages
+LimitIsPassed (TooBig size) task = (length task.files ≤ FILES_LIMIT) × IsTooBig task.old size
+LimitIsPassed ModseqFull task =
+    IsWithinSizes task × (contents : Contents) × AreContents task.files task.old contents × IsModseqFull task.old contents.messages
 LimitIsPassed other task = Unit {0}
+
+-- none of them is passed
+abbrev pub NoLimitIsPassed : Task → Type 0
+NoLimitIsPassed task =
+    IsWithinSizes task × (contents : Contents) × AreContents task.files task.old contents × (IsModseqFull task.old contents.messages → ⊥)
 
 abbrev pub IsHostFault : RebuildFault → Type 0
 IsHostFault DiskFault = Unit {0}

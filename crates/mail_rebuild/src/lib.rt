@@ -9,11 +9,12 @@
 //!   planning    all that comes before the first output
 //!   replacing   the new index takes the old one's place
 //!   rebuilding  an index is rebuilt
-//!   examples    two folders, by the definitions
+//!   examples    two folders, by the definitions; laws: that the definitions give one report and one index
 #![tactic(auto)]
 
 mod examples;
 mod fault;
+mod laws;
 mod merge;
 mod new_index;
 mod old_index;
@@ -26,6 +27,7 @@ mod taking;
 
 pub use examples::{damaged_index_is_rebuilt, five_files_are_rebuilt};
 pub use fault::RebuildFault;
+pub use laws::contents_are_one;
 pub use merge::{Merge, Pairing};
 pub use rebuilding::rebuild;
 pub use report::Tally;

@@ -9,7 +9,7 @@ ghost use Rattle.mail_rebuild.specs.Findings.{Finding, messages_in};
 ghost use Rattle.mail_rebuild.specs.OldFile.{IsDiskFault};
 ghost use Rattle.mail_rebuild.specs.OldIndex.{IsOldIndex};
 ghost use Rattle.mail_rebuild.specs.Planning.{IsLate, IsListRefusal, IsListed, IsMadeOf, IsNoWriteFault, IsPlan, IsPlanRefusal, PlansFor, contents_of};
-ghost use Rattle.mail_rebuild.specs.Rebuilds.{LimitIsPassed, WhereShown};
+ghost use Rattle.mail_rebuild.specs.Rebuilds.{LimitIsPassed, NoLimitIsPassed, WhereShown};
 ghost use Rattle.mail_rebuild.specs.Taking.{IsSpoolFault};
 
 use crate::old_index::{OldIndex, old_index, read_old};
@@ -39,6 +39,8 @@ fn list_folder<S: Spool>(alloc: Global, spool: &mut S) -> Result<Listing, Rebuil
     ensures listed { IfOk result (λ listing. (files : List MessageFile) →
         shown_files (S.state spool.old) ≡ Some files → IsListed files listing) }
     ensures few { IfOk result (λ listing. length listing.messages ≤ FILES_LIMIT) }
+    ensures few_files { IfOk result (λ _. (files : List MessageFile) →
+        shown_files (S.state spool.old) ≡ Some files → length files ≤ FILES_LIMIT) }
     ensures limit { IfErr result (λ fault. (files : List MessageFile) →
         fault ≡ RebuildFault.TooMany → shown_files (S.state spool.old) ≡ Some files →
         FILES_LIMIT < length files) }
@@ -106,6 +108,8 @@ pub(crate) fn prepare<D: Disk, S: Spool>(
         IsPlan task plan)) }
     ensures limit { IfErr result (λ fault.
         WhereShown (S.state spool.old) (D.state disk.old) now options.now (LimitIsPassed fault)) }
+    ensures no_limit { IfOk result (λ _.
+        WhereShown (S.state spool.old) (D.state disk.old) now options.now NoLimitIsPassed) }
     ensures refused { IfErr result IsNoWriteFault }
     ensures spool_cause { FaultHasCause IsSpoolFault (S.state spool.old).faults
         (S.state spool.new).faults result }

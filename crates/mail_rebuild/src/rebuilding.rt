@@ -6,7 +6,7 @@ ghost use Rattle.base_devices.specs.Frames.{KeepsFile, LeavesBetween};
 ghost use Rattle.base_devices.specs.HostCalls.{moment};
 ghost use Rattle.base_devices.specs.SpoolCalls.{GaveNoName, shown_files};
 ghost use Rattle.mail_rebuild.specs.OldFile.{IsDiskFault};
-ghost use Rattle.mail_rebuild.specs.Rebuilds.{IsEarly, IsHostFault, IsWriteFault, LimitIsPassed, MayBeNew, PrintsSome, Rebuilds, WhereShown};
+ghost use Rattle.mail_rebuild.specs.Rebuilds.{IsEarly, IsHostFault, IsWriteFault, LimitIsPassed, MayBeNew, NoLimitIsPassed, PrintsSome, Rebuilds, WhereShown};
 ghost use Rattle.mail_rebuild.specs.Taking.{IsSpoolFault};
 
 use crate::planning::prepare;
@@ -55,9 +55,11 @@ pub fn rebuild<H: Host, S: Spool>(
         PrintsSome task (moment (H.state host.old) (H.streams host.old))
         (moment (H.state host.new) (H.streams host.new)))) }
 
-    // Why it may be refused.
+    // Why it may be refused, and that it is where a limit is passed.
     ensures limit { IfErr result (λ fault.
         WhereShown (S.state spool.old) (H.state host.old) now options.now (LimitIsPassed fault)) }
+    ensures no_limit { IfOk result (λ _.
+        WhereShown (S.state spool.old) (H.state host.old) now options.now NoLimitIsPassed) }
     ensures spool_cause { FaultHasCause IsSpoolFault (S.state spool.old).faults
         (S.state spool.new).faults result }
     ensures host_cause { FaultHasCause IsHostFault (H.state host.old).faults

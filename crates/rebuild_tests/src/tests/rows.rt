@@ -4,6 +4,7 @@ ghost use Rattle.base_devices.specs.SpoolCalls.{GaveNoName};
 ghost use Rattle.mem_spool.specs.MemSpool.{mem_spool_state};
 
 use super::indexes::{DAMAGED, THREE_RECORDS, TWO_FRESH, TWO_KEPT_AND_FRESH};
+use super::model::File;
 use base_bytes::NoMemory;
 use base_notes::Options;
 use mail_rebuild::{RebuildFault, Tally, rebuild};
@@ -15,19 +16,57 @@ use std::test::Fail;
 
 const FILE_TIME: u64 = 1_600_000_000;
 
-const NOW: u64 = 1_700_000_000;
+pub(crate) const NOW: u64 = 1_700_000_000;
 
-const ROOM: u64 = 4096;
+const ROOM: u64 = 1 << 20;
 
-const FIVE: &[(&str, &[u8])] = &[
-    ("notes", b"x"),
-    ("2.", b"The quick brown fox jumps over the lazy dog"),
-    ("3.", b""),
-    ("1.", b"abc"),
-    ("01.", b"abc"),
+pub(crate) const FIVE: &[File<'static>] = &[
+    File {
+        name: "notes",
+        time: FILE_TIME,
+        bytes: b"x",
+        date: None,
+    },
+    File {
+        name: "2.",
+        time: FILE_TIME,
+        bytes: b"The quick brown fox jumps over the lazy dog",
+        date: None,
+    },
+    File {
+        name: "3.",
+        time: FILE_TIME,
+        bytes: b"",
+        date: None,
+    },
+    File {
+        name: "1.",
+        time: FILE_TIME,
+        bytes: b"abc",
+        date: None,
+    },
+    File {
+        name: "01.",
+        time: FILE_TIME,
+        bytes: b"abc",
+        date: None,
+    },
 ];
 
-const TWO: &[(&str, &[u8])] = &[("4294967295.", b"abc"), ("1.", b"abc")];
+pub(crate) const TWO: &[File<'static>] = &[
+    File {
+        name: "4294967295.",
+        time: FILE_TIME,
+        bytes: b"abc",
+        date: None,
+    },
+    File {
+        name: "1.",
+        time: FILE_TIME,
+        bytes: b"abc",
+        date: None,
+    },
+];
 
 const FULL: Options = Options {
     dry: false,
@@ -50,7 +89,7 @@ const FRESH_TWO: Tally = Tally {
 
 struct Row {
     name: &'static str,
-    files: &'static [(&'static str, &'static [u8])],
+    files: &'static [File<'static>],
     main: Option<&'static [u8]>,
     options: Options,
     // The calls that fail: of the spool, of the disk, and to print.
@@ -154,13 +193,17 @@ const ROWS: &[Row] = &[
 ];
 
 // A folder of these files, of whose calls these fail.
-fn folder(alloc: Global, files: &[(&str, &[u8])], failing: &[u64]) -> Result<MemSpool, NoMemory>
+pub(crate) fn folder(
+    alloc: Global,
+    files: &[File<'_>],
+    failing: &[u64],
+) -> Result<MemSpool, NoMemory>
     ensures { IfOk result (λ s. GaveNoName (mem_spool_state s)) }
 {
     let mut spool = MemSpool::new(alloc)?;
-    for (name, bytes) in files {
-        if name.len() <= 255 && !spool.has(name) {
-            spool.add(name, FILE_TIME, bytes)?;
+    for file in files {
+        if file.name.len() <= 255 && !spool.has(file.name) {
+            spool.add(file.name, file.time, file.bytes)?;
         }
     }
     if let Some(call) = failing.first() {
@@ -169,18 +212,23 @@ fn folder(alloc: Global, files: &[(&str, &[u8])], failing: &[u64]) -> Result<Mem
     Ok(spool)
 }
 
-// A host with this index, of whose calls these fail.
-fn host(alloc: Global, row: &Row) -> Result<MemHost, Fail> {
-    if row.main.is_some_and(|bytes| bytes.len() as u64 > ROOM) {
+// A host with this index, of whose calls and prints these fail.
+pub(crate) fn host(
+    alloc: Global,
+    main: Option<&[u8]>,
+    calls: &[u64],
+    prints: &[u64],
+) -> Result<MemHost, Fail> {
+    if main.is_some_and(|bytes| bytes.len() as u64 > ROOM) {
         return Err("the index is too long for the test".into());
     }
-    let disk = MemDisk::new(alloc, row.main, ROOM, row.failing[1])?;
-    Ok(MemHost::new(alloc, disk, ROOM, row.failing[2])?)
+    let disk = MemDisk::new(alloc, main, ROOM, calls)?;
+    Ok(MemHost::new(alloc, disk, ROOM, prints)?)
 }
 
 fn assert_rebuilt(rt: &impl Abort, alloc: Global, row: &Row) -> Result<(), Fail> {
     let mut spool = folder(alloc, row.files, row.failing[0])?;
-    let mut host = host(alloc, row)?;
+    let mut host = host(alloc, row.main, row.failing[1], row.failing[2])?;
     let result = rebuild(alloc, &mut host, &mut spool, NOW, &row.options);
     assert_eq!(rt; result, row.wanted, "{}", row.name);
     assert_eq!(rt; host.told(), row.told.as_bytes(), "{}", row.name);
