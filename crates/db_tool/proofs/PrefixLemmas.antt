@@ -100,6 +100,16 @@ pub having : (prefix : List ℕ) (p : List ℕ × List ℕ) (m : Map) → starts
 unfolding with_prefix
 having prefix p m has = ap (λ (b : Bool). cond b (p ∷ filter (λ q. starts_with nat_eq q.0 prefix) m) (filter (λ q. starts_with nat_eq q.0 prefix) m)) has
 
+-- each key begins with no byte
+begins_none : (key : List ℕ) → starts_with nat_eq key [] ≡ true
+begins_none [] = refl
+begins_none (x ∷ key) = refl
+
+pub prefix_none : (m : Map) → with_prefix m [] ≡ m
+unfolding with_prefix
+prefix_none [] = refl
+prefix_none (p ∷ m) = having [] p m (begins_none p.0) ∙ ap (λ (l : Map). p ∷ l) (prefix_none m)
+
 none_of : (prefix : List ℕ) → with_prefix [] prefix ≡ []
 unfolding with_prefix
 none_of prefix = refl

@@ -2,7 +2,7 @@
 use Rattle.std.proofs.Common.{◌≡◌, ◌⊎◌, inl, inr, ⊎_elim, ℕ, ◌-◌, ◌≤◌, Bool, true, false, List, [], ◌∷◌, Option, None, Some, Result, Ok, Err, length, refl, sym, ◌∙◌, ap, subst, arith}
 use Rattle.std.specs.Option.{option_or}
 use Rattle.std.specs.Prelude.{if◌then◌else◌, is_some, nat_lt, ◌==◌, IfErr}
-use Rattle.base_bytes.specs.OrderedMap.{Map, value_at}
+use Rattle.base_bytes.specs.OrderedMap.{Map, value_at, with_prefix}
 use Rattle.base_bytes.specs.declared.limits.TheConstants.{KEY_LIMIT, VALUE_LIMIT}
 use Rattle.base_bytes.specs.Transactions.{after_first}
 use Rattle.base_bytes.specs.declared.change.Change.{Change}
@@ -12,17 +12,20 @@ use Rattle.base_devices.specs.Frames.{OnlyPrints, KeepsCounts}
 use Rattle.base_devices.specs.HostCalls.{HostMoment}
 use Rattle.base_notes.specs.declared.note.Device.TheVariants.{Host}
 use Rattle.base_notes.specs.declared.note.Note.{Note}
-use Rattle.base_notes.specs.declared.note.Note.TheVariants.{Done, DeviceFault, Memory}
+use Rattle.base_notes.specs.declared.action.Action.TheVariants.{Get, Show}
+use Rattle.base_notes.specs.declared.note.Note.TheVariants.{Done, Answer, BadLine, DeviceFault, Memory}
 use Rattle.db_core.specs.Calls.{OnDisk, OpensCommitted}
 use Rattle.db_core.specs.Refusals.{IsDiskFault, pair_refusal, size_refusal, change_refusal, delete_refusal}
 use Rattle.db_core.specs.Sessions.{DbKind, DbState, over, at_rest, begun, aborted}
 use Rattle.db_core.specs.WholeTransactions.{MakesWhole, run_after, run_refusal}
 use Rattle.db_core.specs.declared.fault.DbFault.{DbFault}
 use Rattle.db_core.specs.declared.fault.DbFault.TheVariants.{Broken, KeyEmpty, KeyTooLong, ValueTooLong, Full, NoMemory, DiskFault}
-use Rattle.db_tool.specs.Doing.{ToolMoment, StandsAfter, DoesTask, Looks, ChangesOnce, note_of_whole}
-use Rattle.db_tool.specs.Printing.{Printed}
-use Rattle.db_tool.specs.Tasks.{Task, KeepsPrefix, printing, changing, changing_by}
+use Rattle.db_tool.specs.Doing.{ToolMoment, StandsAfter, DoesTask, DrawsWords, Looks, ChangesOnce, note_of_whole}
+use Rattle.db_tool.specs.Printing.{Printed, shown, value_line}
+use Rattle.db_tool.specs.Tasks.{Task, Given, KeepsPrefix, printing, changing, changing_by, found_note, found_output, is_empty, task_if, task_of}
 use Rattle.db_tool.specs.ToolNotes.{IsFault, Faults, change_note}
+use Rattle.rand_core.specs.Stream.{Stream}
+use Rattle.db_tool.proofs.PrefixLemmas.{prefix_none}
 use Rattle.db_tool.proofs.PrintLemmas.{printed_still, some_none}
 
 -- a session outside a transaction is at rest
@@ -67,6 +70,34 @@ looks_does kind s old new output wanted note rests opens looks = record {
   faults = looks.faults;
   device = looks.device;
 }
+
+-- a value that was looked for is printed as that of the session's map
+pub found_does : (kind : DbKind) (s : DbState) (g : Given) (old new : HostMoment) (key : List ℕ) (value : Option (List ℕ)) (note : Note) → s ≡ at_rest s.committed s.load
+    → ((c : Image) → old.disk.leaves c → kind.opens c s.committed) → value ≡ value_at s.seen key → Looks (found_note key value) (found_output key value) old new note
+    → DoesTask kind (task_of kind s g (Get key)) (record { session = s; host = old }) (record { session = s; host = new }) note
+found_does kind s g old new key value note rests opens is looks =
+    by (is_empty key) (subst (λ (v : Option (List ℕ)). Looks (found_note key v) (found_output key v) old new note) is looks)
+  where
+    by : (b : Bool) → Looks (if b then BadLine 1 else (if is_some (value_at s.seen key) then Done else Answer)) (if b then [] else value_line (value_at s.seen key)) old new note
+        → DoesTask kind (task_if b kind s g (Get key)) (record { session = s; host = old }) (record { session = s; host = new }) note
+    by true looks = looks_does kind s old new [] (BadLine 1) note rests opens looks
+    by false looks = looks_does kind s old new (value_line (value_at s.seen key)) (if is_some (value_at s.seen key) then Done else Answer) note rests opens looks
+
+-- a text of all pairs as they are is what is shown without a prefix
+pub shown_does : (kind : DbKind) (s : DbState) (g : Given) (old new : HostMoment) (text : List ℕ) (note : Note) → s ≡ at_rest s.committed s.load
+    → ((c : Image) → old.disk.leaves c → kind.opens c s.committed) → text ≡ shown s.seen → Looks Done text old new note
+    → DoesTask kind (task_of kind s g (Show [])) (record { session = s; host = old }) (record { session = s; host = new }) note
+shown_does kind s g old new text note rests opens is looks =
+    looks_does kind s old new (shown (with_prefix s.seen [])) Done note rests opens
+    (subst (λ (l : List ℕ). Looks Done l old new note) (is ∙ ap shown (sym (prefix_none s.seen))) looks)
+
+-- and no word is drawn for it
+pub found_draws : (kind : DbKind) (s : DbState) (g : Given) (key : List ℕ) (words : Stream) (note : Note) → DrawsWords (task_of kind s g (Get key)) words words note
+found_draws kind s g key words note = record { count = 0; drawn = refl; within = omega arith; whole = inr (none (is_empty key)) }
+  where
+    none : (b : Bool) → 0 ≡ (task_if b kind s g (Get key)).words
+    none true = refl
+    none false = refl
 
 -- ---- a task of one change
 

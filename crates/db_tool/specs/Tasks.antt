@@ -96,6 +96,13 @@ lacks_key (Set key value) = is_empty key
 lacks_key (Delete key) = is_empty key
 lacks_key action = false
 
+-- how `get` ends, and what it prints, where its key has this value
+abbrev pub found_note : List ℕ → Option (List ℕ) → Note
+found_note key value = if is_empty key then BadLine 1 else (if is_some value then Done else Answer)
+
+abbrev pub found_output : List ℕ → Option (List ℕ) → List ℕ
+found_output key value = if is_empty key then [] else value_line value
+
 -- the task of an action that has a key where it needs one
 abbrev pub task_with_key : DbKind → DbState → Given → Action → Task
 task_with_key kind s g (Show prefix) = printing s (shown (with_prefix s.seen prefix)) Done

@@ -13,4 +13,5 @@ mod notes;
 mod printing;
 
 pub use acting::act;
+pub use looking::{print_text, print_value};
 pub use notes::{HOST_FAULT, note_of_change, note_of_opening};

@@ -5,10 +5,11 @@ ghost use Rattle.base_devices.specs.HostCalls.{moment};
 ghost use Rattle.base_notes.specs.declared.note.Note.{Note};
 ghost use Rattle.db_tool.specs.Doing.{Looks};
 ghost use Rattle.db_tool.specs.Printing.{Prints, PrintsAll, holding, value_line, pair_text, shown};
+ghost use Rattle.db_tool.specs.Tasks.{found_note, found_output};
 
 use crate::notes::HOST_FAULT;
-use crate::printing::{flush, print_part};
-use base_bytes::Piece;
+use crate::printing::{flush, print, print_part};
+use base_bytes::{Bytes, Piece};
 use base_devices::{Failed, Host};
 use base_notes::Note;
 use db_core::Db;
@@ -28,6 +29,67 @@ fn print_line<H: Host>(host: &mut H, value: &[u8], output: &mut Piece) -> Result
     flush(host, output)
 }
 
+// Prints a text in full before it ends.
+fn print_whole<H: Host>(host: &mut H, text: &[u8], output: &mut Piece) -> Result<(), Failed>
+    requires { output.old ≡ [] }
+    ensures all { PrintsAll text.now (moment (H.state host.old) (H.streams host.old))
+        (moment (H.state host.new) (H.streams host.new)) result }
+    ensures rest { H.host_rest host.old host.new }
+{
+    if let Err(fault) = print(host, text, output) {
+        return Err(fault);
+    }
+    flush(host, output)
+}
+
+/// Prints a text in which all pairs of a map stand as they are, as `act` does it for `show` without a prefix.
+pub fn print_text<H: Host>(alloc: Global, text: &[u8], host: &mut H) -> Note
+    ensures looks { Looks Note.Done text.now
+        (moment (H.state host.old) (H.streams host.old))
+        (moment (H.state host.new) (H.streams host.new)) result }
+    ensures rest { H.host_rest host.old host.new }
+{
+    let Ok(mut output) = Piece::new(alloc) else {
+        return Note::Memory;
+    };
+    match print_whole(host, text, &mut output) {
+        Ok(()) => Note::Done,
+        Err(_) => HOST_FAULT,
+    }
+}
+
+// Prints a value that was found.
+fn print_found<H: Host>(alloc: Global, value: &[u8], host: &mut H) -> Note
+    ensures looks { Looks Note.Done (value_line (Some value.now))
+        (moment (H.state host.old) (H.streams host.old))
+        (moment (H.state host.new) (H.streams host.new)) result }
+    ensures rest { H.host_rest host.old host.new }
+{
+    let Ok(mut output) = Piece::new(alloc) else {
+        return Note::Memory;
+    };
+    match print_line(host, value, &mut output) {
+        Ok(()) => Note::Done,
+        Err(_) => HOST_FAULT,
+    }
+}
+
+/// Prints the value of a key that was looked for, as `act` does it for `get`: an empty key is refused as line 1.
+pub fn print_value<H: Host>(alloc: Global, key: &[u8], value: &Option<Bytes>, host: &mut H) -> Note
+    ensures looks { Looks (found_note key.now value.now) (found_output key.now value.now)
+        (moment (H.state host.old) (H.streams host.old))
+        (moment (H.state host.new) (H.streams host.new)) result }
+    ensures rest { H.host_rest host.old host.new }
+{
+    if key.is_empty() {
+        return Note::BadLine { line: 1 };
+    }
+    match value {
+        Some(value) => print_found(alloc, value.as_slice(), host),
+        None => Note::Answer,
+    }
+}
+
 /// Prints the value of a key.
 pub(crate) fn get<H: Host, B: Db<H>>(alloc: Global, key: &[u8], db: &B, host: &mut H) -> Note
     requires sound { (B.state db.now).is_broken ≡ false }
@@ -40,13 +102,7 @@ pub(crate) fn get<H: Host, B: Db<H>>(alloc: Global, key: &[u8], db: &B, host: &m
     let Some(value) = db.fetch(key) else {
         return Note::Answer;
     };
-    let Ok(mut output) = Piece::new(alloc) else {
-        return Note::Memory;
-    };
-    match print_line(host, value, &mut output) {
-        Ok(()) => Note::Done,
-        Err(_) => HOST_FAULT,
-    }
+    print_found(alloc, value, host)
 }
 
 // Prints a pair: its key, TAB, its value and a line feed.

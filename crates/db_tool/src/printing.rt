@@ -56,6 +56,17 @@ pub(crate) fn print<H: Host>(host: &mut H, bytes: &[u8], output: &mut Piece) -> 
     Ok(())
 }
 
+// Gathers a part of a line that leaves room, and the byte that ends it.
+fn gather(part: &[u8], end: u8, output: &mut Piece)
+    requires { length output.old + length part.now < PIECE_SIZE }
+    ensures { output.new ≡ output.old ++ (part.now ++ end ∷ []) }
+{
+    if !part.is_empty() {
+        output.add(part);
+    }
+    output.push(end);
+}
+
 // Prints a part of a line, and the byte that ends it.
 pub(crate) fn print_part<H: Host>(
     host: &mut H,
@@ -68,6 +79,10 @@ pub(crate) fn print_part<H: Host>(
         (holding output.new (H.state host.new) (H.streams host.new)) result }
     ensures rest { H.host_rest host.old host.new }
 {
+    if part.len() < output.room() {
+        gather(part, end, output);
+        return Ok(());
+    }
     if let Err(fault) = print(host, part, output) {
         return Err(fault);
     }
