@@ -6,3 +6,6 @@ pub mod LineLemmas
 pub mod AnswerLemmas
 pub mod ReplyLemmas
 pub mod RefusalLemmas
+pub mod StepLemmas
+pub mod CourseLemmas
+pub mod EndLemmas

@@ -1,5 +1,5 @@
 -- A refused line, and the note with which the script then ends.
-use Rattle.std.proofs.Common.{◌≡◌, ◌∙◌, ◌⊎◌, inl, inr, ⊎_elim, ℕ, Bool, true, false, List, [], Option, Some, None, Result, Ok, Err, length, refl, sym, ap, subst, arith}
+use Rattle.std.proofs.Common.{◌≡◌, ◌∙◌, ◌⊎◌, ⊎_elim, ℕ, Bool, true, false, List, Option, Some, None, Err, length, refl, sym, ap, subst}
 use Rattle.std.specs.Option.{option_or}
 use Rattle.std.specs.Prelude.{is_some, nat_lt, ◌==◌, if◌then◌else◌}
 use Rattle.base_bytes.specs.OrderedMap.{value_at}
@@ -12,7 +12,7 @@ use Rattle.db_core.specs.Refusals.{pair_refusal, size_refusal, change_refusal}
 use Rattle.db_core.specs.Sessions.{DbKind, DbState, DbMoment, begun}
 use Rattle.db_core.specs.declared.fault.DbFault.{DbFault}
 use Rattle.db_core.specs.declared.fault.DbFault.TheVariants.{Broken, KeyEmpty, KeyTooLong, ValueTooLong, Full, NoMemory, DiskFault}
-use Rattle.db_tool.specs.ToolNotes.{IsFault, Faults, change_note}
+use Rattle.db_tool.specs.ToolNotes.{IsFault, change_note}
 use Rattle.db_script.specs.Batch.{GoesWell}
 use Rattle.db_script.specs.Doing.{DoesLine}
 use Rattle.db_script.specs.Lines.{Command}

@@ -1,12 +1,11 @@
 -- How a script is done, whatever its source: the devices that fail, and what is left of the session.
-use Rattle.std.specs.Prelude.{◌≡◌, ◌⊎◌, ℕ, ◌+◌, Bool, true, false, if◌then◌else◌, Option, None, Some, Result, Ok, Err}
-use Rattle.base_devices.specs.CrashImages.{DiskState}
+use Rattle.std.specs.Prelude.{◌≡◌, ◌⊎◌, ℕ, ◌+◌, Bool, false, if◌then◌else◌, Option, None, Some, Result, Ok, Err}
 use Rattle.base_notes.specs.declared.note.Device.{Device}
 use Rattle.base_notes.specs.declared.note.Device.TheVariants.{Host, Input}
 use Rattle.base_notes.specs.declared.note.Note.{Note}
 use Rattle.base_notes.specs.declared.note.Note.TheVariants.{Done, BadLine, Limit, DeviceFault, Memory}
 use Rattle.db_core.specs.Calls.{KeepsInPlace}
-use Rattle.db_core.specs.Sessions.{DbKind, DbState, DbMoment}
+use Rattle.db_core.specs.Sessions.{DbKind, DbMoment}
 use Rattle.base_notes.specs.declared.note.LimitName.TheVariants.{Script}
 use Rattle.base_bytes.specs.declared.limits.TheConstants.{SCRIPT_LIMIT}
 use Rattle.db_script.specs.declared.script.ScriptFault.{ScriptFault}

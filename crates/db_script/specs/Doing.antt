@@ -1,5 +1,5 @@
 -- A line is done over an open database.
-use Rattle.std.specs.Prelude.{◌≡◌, ◌⊎◌, ℕ, false, Option, None, Result, OnOk, IfErr}
+use Rattle.std.specs.Prelude.{◌≡◌, ◌⊎◌, ℕ, false, None, Result, OnOk, IfErr}
 use Rattle.base_devices.specs.Causes.{FaultHasCause}
 use Rattle.base_devices.specs.CrashImages.{Image}
 use Rattle.base_devices.specs.Frames.{KeepsCounts}

@@ -7,3 +7,5 @@ pub mod Replies
 pub mod Scripts
 pub mod Doing
 pub mod Batch
+pub mod Steps
+pub mod Course

@@ -1,5 +1,5 @@
 -- What each line does to a session, and what it is answered.
-use Rattle.std.specs.Prelude.{◌≡◌, ℕ, Bool, true, false, not, List, [], ◌∷◌, ◌++◌, Option, Some, None, codes, if◌then◌else◌}
+use Rattle.std.specs.Prelude.{ℕ, Bool, true, false, not, List, [], ◌∷◌, ◌++◌, Option, Some, None, codes, if◌then◌else◌}
 use Rattle.base_bytes.specs.Escapes.{escaped}
 use Rattle.base_bytes.specs.OrderedMap.{Map, value_at, with_prefix}
 use Rattle.base_bytes.specs.declared.change.Change.{Change}

@@ -1,5 +1,5 @@
 -- What a script comes to over a session at rest: the task that it is.
-use Rattle.std.specs.Prelude.{◌≡◌, ℕ, ◌+◌, ◌-◌, ◌≤◌, nat_lt, leb, Bool, true, false, List, [], ◌∷◌, ◌++◌, length, Option, Some, None, Result, Ok, Err, if◌then◌else◌}
+use Rattle.std.specs.Prelude.{ℕ, ◌+◌, ◌-◌, ◌≤◌, nat_lt, leb, Bool, false, List, [], ◌∷◌, ◌++◌, length, Option, Some, None, Result, Ok, Err, if◌then◌else◌}
 use Rattle.base_bytes.specs.Transactions.{Transaction}
 use Rattle.base_bytes.specs.declared.change.Change.{Change}
 use Rattle.base_bytes.specs.declared.limits.TheConstants.{SCRIPT_LIMIT}
@@ -13,7 +13,7 @@ use Rattle.db_tool.specs.Tasks.{Task}
 use Rattle.db_tool.specs.ToolNotes.{change_note}
 use Rattle.rand_core.specs.Stream.{Stream, next_u32}
 use Rattle.db_script.specs.Fields.{before}
-use Rattle.db_script.specs.Lines.{Command, commit, set, lines_of, read_line}
+use Rattle.db_script.specs.Lines.{Command, set, lines_of, read_line}
 use Rattle.db_script.specs.Replies.{is_placed, change_of, session_after, owed_by, reply_of, commits}
 
 -- a reply, and whether it says that a transaction is committed

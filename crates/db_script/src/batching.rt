@@ -1,5 +1,5 @@
 // A script is done line by line.
-ghost use Rattle.std.specs.Prelude.{◌≡◌, ◌⊎◌, ◌+◌, true, false, Option, None, Result, IfSome, IfOk, IfErr, OnOk};
+ghost use Rattle.std.specs.Prelude.{◌≡◌, ◌⊎◌, ◌+◌, ℕ, List, Some, [], true, false, Option, None, Result, IfSome, IfOk, IfErr, OnOk};
 ghost use Rattle.base_notes.specs.Notes.{status_of};
 ghost use Rattle.base_notes.specs.declared.note.Device.TheVariants.{Host, Input};
 ghost use Rattle.base_notes.specs.declared.note.Note.TheVariants.{DeviceFault};
@@ -10,7 +10,14 @@ ghost use Rattle.db_script.specs.Reading.{ReadsLine, is_gathered, script_state};
 ghost use Rattle.db_script.specs.declared.buffer.Found.{Found};
 ghost use Rattle.db_script.specs.declared.script.ScriptFault.{ScriptFault};
 ghost use Rattle.db_script.specs.Lines.{command_of};
-ghost use Rattle.db_script.specs.Scripts.{words_behind};
+ghost use Rattle.db_script.specs.Scripts.{script_task, words_behind};
+ghost use Rattle.base_devices.specs.HostCalls.{moment};
+ghost use Rattle.rand_core.specs.Stream.{next_u32};
+ghost use Rattle.db_script.specs.Replies.{change_of};
+ghost use Rattle.db_script.specs.Steps.{DoesOne, DoesOrEnds, EndsWhole, asked, gathered};
+ghost use Rattle.db_tool.specs.Printing.{Prints, PrintsSome, holding};
+ghost use Rattle.db_script.specs.Course.{DrawsStated, EndsAsStated, GoesOnFrom, script_over, to_read};
+ghost use Rattle.db_tool.specs.Doing.{during};
 ghost use Rattle.db_tool.specs.ToolNotes.{Faults, IsFault};
 
 use crate::buffer::Found;
@@ -20,7 +27,7 @@ use crate::printing::flush;
 use crate::replying::reply;
 use crate::script::{Script, ScriptFault};
 use base_bytes::{Piece, SCRIPT_LIMIT};
-use base_devices::Host;
+use base_devices::{Failed, Host};
 use base_notes::{Device, LimitName, Note, Outcome};
 use base_source::Source;
 use db_core::Db;
@@ -30,7 +37,9 @@ use std::alloc::Global;
 
 // The random word of a line: only a pair that is to be put takes one.
 fn word_for<R: Rng>(line: &Line<'_>, rng: &mut R) -> u32
-    ensures { R.stream rng.new ≡ words_behind (command_of line.now) (R.stream rng.old) }
+    ensures rest { R.stream rng.new ≡ words_behind (command_of line.now) (R.stream rng.old) }
+    ensures word { change_of result (command_of line.now)
+        ≡ change_of (next_u32 (R.stream rng.old)).0 (command_of line.now) }
 {
     match line {
         Line::Set { .. } => rng.next_u32(),
@@ -53,6 +62,10 @@ fn do_line<H: Host, B: Db<H>>(
     ensures well { GoesWell B.kind (over (H.state host.old) (B.state db.old))
         (over (H.state host.new) (B.state db.new)) (note_or_done result) }
     ensures device { IfSome result (λ note. IsFault note → note ≡ DeviceFault Host) }
+    ensures does { DoesOne B.kind (asked number word (command_of line.now))
+        (gathered (B.state db.old) (holding output.old (H.state host.old) (H.streams host.old)))
+        (gathered (B.state db.new) (holding output.new (H.state host.new) (H.streams host.new)))
+        result }
     ensures tied { B.tie db.new host.new }
     ensures rest { H.host_rest host.old host.new }
 {
@@ -79,6 +92,12 @@ fn finish<H: Host, B: Db<H>>(note: Note, db: &mut B, host: &mut H, output: &mut 
     ensures same { (IsFault result → ⊥) → result ≡ note }
     ensures device { IsFault result → result ≡ DeviceFault Host }
     ensures closed { (IsFault result → ⊥) → (B.state db.new).in_transaction ≡ false }
+    ensures empty { (IsFault result → ⊥) → output.new ≡ [] }
+    ensures some { PrintsSome output.old (moment (H.state host.old) (H.streams host.old))
+        (moment (H.state host.new) (H.streams host.new)) }
+    ensures whole { (IsFault result → ⊥) → EndsWhole
+        (gathered (B.state db.old) (holding output.old (H.state host.old) (H.streams host.old)))
+        (gathered (B.state db.new) (holding output.new (H.state host.new) (H.streams host.new))) }
     ensures tied { B.tie db.new host.new }
     ensures rest { H.host_rest host.old host.new }
 {
@@ -128,6 +147,12 @@ fn stop<H: Host, B: Db<H>>(note: Note, db: &mut B, host: &mut H, output: &mut Pi
     ensures same { (IsFault result → ⊥) → result ≡ note }
     ensures device { IsFault result → (result ≡ DeviceFault Host) ⊎ (result ≡ note) }
     ensures closed { (IsFault result → ⊥) → (B.state db.new).in_transaction ≡ false }
+    ensures empty { (IsFault result → ⊥) → output.new ≡ [] }
+    ensures some { PrintsSome output.old (moment (H.state host.old) (H.streams host.old))
+        (moment (H.state host.new) (H.streams host.new)) }
+    ensures whole { (IsFault result → ⊥) → EndsWhole
+        (gathered (B.state db.old) (holding output.old (H.state host.old) (H.streams host.old)))
+        (gathered (B.state db.new) (holding output.new (H.state host.new) (H.streams host.new))) }
     ensures tied { B.tie db.new host.new }
     ensures rest { H.host_rest host.old host.new }
 {
@@ -154,6 +179,11 @@ fn do_or_stop<H: Host, B: Db<H>>(
     ensures device { IfSome result (λ note. IsFault note → note ≡ DeviceFault Host) }
     ensures closed { IfSome result (λ note. (IsFault note → ⊥)
         → (B.state db.new).in_transaction ≡ false) }
+    ensures empty { IfSome result (λ note. (IsFault note → ⊥) → output.new ≡ []) }
+    ensures does { DoesOrEnds B.kind (asked number word (command_of line.now))
+        (gathered (B.state db.old) (holding output.old (H.state host.old) (H.streams host.old)))
+        (gathered (B.state db.new) (holding output.new (H.state host.new) (H.streams host.new)))
+        result }
     ensures tied { B.tie db.new host.new }
     ensures rest { H.host_rest host.old host.new }
 {
@@ -189,6 +219,18 @@ fn next_found<I: Source>(
     }
 }
 
+// Prints what is gathered where more of the script is to be read.
+fn make_way<H: Host>(script: &Script, host: &mut H, output: &mut Piece) -> Result<(), Failed>
+    ensures prints { Prints [] (holding output.old (H.state host.old) (H.streams host.old))
+        (holding output.new (H.state host.new) (H.streams host.new)) result }
+    ensures rest { H.host_rest host.old host.new }
+{
+    if script.needs_input() {
+        return flush(host, output);
+    }
+    Ok(())
+}
+
 // Does the next line, or ends the script. What is gathered is printed before more of the script is read.
 fn do_next<H: Host, B: Db<H>, I: Source, R: Rng>(
     alloc: Global,
@@ -208,12 +250,19 @@ fn do_next<H: Host, B: Db<H>, I: Source, R: Rng>(
     ensures device { IfSome result NamesScriptDevice }
     ensures closed { IfSome result (λ note. (IsFault note → ⊥)
         → (B.state db.new).in_transaction ≡ false) }
+    ensures empty { IfSome result (λ note. (IsFault note → ⊥) → output.new ≡ []) }
     ensures lines { result ≡ None → (script_state script.new).lines
         ≡ (script_state script.old).lines + 1 }
+    ensures goes { GoesOnFrom B.kind (script_over
+        (to_read (script_state script.old) (I.state input.old).left (R.stream rng.old))
+        (gathered (B.state db.old) (holding output.old (H.state host.old) (H.streams host.old))))
+        (script_over (to_read (script_state script.new) (I.state input.new).left (R.stream rng.new))
+        (gathered (B.state db.new) (holding output.new (H.state host.new) (H.streams host.new))))
+        result }
     ensures tied { B.tie db.new host.new }
     ensures rest { H.host_rest host.old host.new }
 {
-    if script.needs_input() && flush(host, output).is_err() {
+    if let Err(_) = make_way(script, host, output) {
         return Some(HOST_FAULT);
     }
     let number = script.lines() + 1;
@@ -243,6 +292,14 @@ fn do_lines<H: Host, B: Db<H>, I: Source, R: Rng>(
     ensures input { Faults Input result (I.state input.old).faults (I.state input.new).faults }
     ensures device { NamesScriptDevice result }
     ensures closed { (IsFault result → ⊥) → (B.state db.new).in_transaction ≡ false }
+    ensures empty { (IsFault result → ⊥) → output.new ≡ [] }
+    ensures stated { (left : List ℕ) → (I.state input.old).left ≡ Some left → output.old ≡ []
+        → EndsAsStated (script_task B.kind (B.state db.old) (R.stream rng.old) left)
+        (during (H.state host.old) (H.streams host.old) (B.state db.old))
+        (during (H.state host.new) (H.streams host.new) (B.state db.new)) result }
+    ensures words { (left : List ℕ) → (I.state input.old).left ≡ Some left
+        → DrawsStated (script_task B.kind (B.state db.old) (R.stream rng.old) left)
+        (R.stream rng.old) (R.stream rng.new) result }
     ensures tied { B.tie db.new host.new }
     ensures rest { H.host_rest host.old host.new }
 {
@@ -253,6 +310,17 @@ fn do_lines<H: Host, B: Db<H>, I: Source, R: Rng>(
         }
     }
     unreachable!()
+}
+
+// The outcome with this note.
+fn outcome_of(note: Note) -> Outcome
+    ensures note { result.note ≡ note }
+    ensures status { result.status ≡ status_of note }
+{
+    Outcome {
+        status: note.status(),
+        note,
+    }
 }
 
 /// Does the lines of a script, and prints the reply of each before more of the script is read. A committing line's reply
@@ -279,17 +347,26 @@ pub fn batch<H: Host, B: Db<H>, I: Source, R: Rng>(
         (I.state input.old).faults (I.state input.new).faults }
     ensures device { NamesScriptDevice result.note }
 
+    // Of a source that shows its bytes: note, output and session are the stated ones, unless a device failed or memory
+    // ran out, and at any end a prefix of the stated output was printed.
+    ensures stated { (left : List ℕ) → (I.state input.old).left ≡ Some left
+        → EndsAsStated (script_task B.kind (B.state db.old) (R.stream rng.old) left)
+        (during (H.state host.old) (H.streams host.old) (B.state db.old))
+        (during (H.state host.new) (H.streams host.new) (B.state db.new)) result.note }
+    ensures words { (left : List ℕ) → (I.state input.old).left ≡ Some left
+        → DrawsStated (script_task B.kind (B.state db.old) (R.stream rng.old) left)
+        (R.stream rng.old) (R.stream rng.new) result.note }
+
     ensures closed { (IsFault result.note → ⊥) → (B.state db.new).in_transaction ≡ false }
     ensures status { result.status ≡ status_of result.note }
     ensures tied { B.tie db.new host.new }
     ensures rest { H.host_rest host.old host.new }
 {
-    let note = match Piece::new(alloc) {
-        Ok(mut output) => do_lines(alloc, &mut output, db, host, input, rng),
-        Err(_) => Note::Memory,
-    };
-    Outcome {
-        status: note.status(),
-        note,
+    match Piece::new(alloc) {
+        Ok(mut output) => {
+            let note = do_lines(alloc, &mut output, db, host, input, rng);
+            outcome_of(note)
+        }
+        Err(_) => outcome_of(Note::Memory),
     }
 }

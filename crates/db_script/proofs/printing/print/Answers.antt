@@ -1,5 +1,5 @@
-use Rattle.std.proofs.Common.{◌≡◌, ◌+◌, ◌-◌, [], ◌++◌, List, ℕ, Err, Ok, take, drop, length, ap, sym, ◌∙◌, subst, refl, arith, length-append}
-use Rattle.std.proofs.lemmas.List.{append-nil, take-append-drop, take_rest, length-drop, length-take-le, take_all}
+use Rattle.std.proofs.Common.{◌≡◌, ◌+◌, ◌-◌, [], ◌++◌, List, ℕ, Err, Ok, take, drop, length, ap, sym, ◌∙◌, subst, arith}
+use Rattle.std.proofs.lemmas.List.{append-nil, take-append-drop, take_rest, length-drop, take_all}
 use Rattle.std.proofs.Math.Seq.{take-add}
 use Rattle.base_devices.specs.declared.disk.Failed.{Failed}
 use Rattle.db_tool.specs.Printing.{Prints, holding}

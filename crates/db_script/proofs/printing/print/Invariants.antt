@@ -1,4 +1,4 @@
-use Rattle.std.proofs.Common.{◌≡◌, ◌≤◌, ◌+◌, ◌-◌, Ok, length, take}
+use Rattle.std.proofs.Common.{◌≤◌, ◌-◌, Ok, length, take}
 use Rattle.base_devices.specs.declared.disk.Failed.{Failed}
 use Rattle.db_tool.specs.Printing.{Prints, holding}
 use Rattle.db_script.proofs.printing.print.Given as goal

@@ -1,0 +1,12 @@
+use Rattle.std.proofs.Common.{inl, inr}
+use Rattle.base_devices.specs.HostCalls.{moment}
+use Rattle.db_script.proofs.EndLemmas.{nothing_stated}
+use Rattle.db_script.proofs.batching.batch.Goals as goal
+
+pub returns-in-Err-clause-stated : goal.returns-in-Err-clause-stated
+returns-in-Err-clause-stated g c left shown =
+    nothing_stated g.B.Db.kind (g.B.Db.state c.args.db.now) (g.R.Rng.stream c.args.rng.now) left (moment (g.H.Disk.state c.args.host.now) (g.H.Host.streams c.args.host.now)) _
+    (inr c.outcome_of-in-Err.ensures.note)
+
+pub returns-in-Err-clause-words : goal.returns-in-Err-clause-words
+returns-in-Err-clause-words g c left shown = inl (inr c.outcome_of-in-Err.ensures.note)

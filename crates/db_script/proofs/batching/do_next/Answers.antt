@@ -1,0 +1,33 @@
+use Rattle.std.proofs.Common.{◌+◌, ℕ, [], ap, refl}
+use Rattle.db_tool.specs.Printing.{holding}
+use Rattle.db_script.specs.Course.{ScriptMoment, script_over, to_read}
+use Rattle.db_script.specs.Held.{found_in}
+use Rattle.db_script.specs.Lines.{command_of}
+use Rattle.db_script.specs.Reading.{script_state}
+use Rattle.db_script.specs.Steps.{LineMoment, gathered}
+use Rattle.db_script.proofs.CourseLemmas.{goes_next, found_handed, ends_next, joins_of}
+use Rattle.db_script.proofs.batching.do_next.Goals as goal
+
+pub returns-in-Ok-clause-goes : goal.returns-in-Ok-clause-goes
+returns-in-Ok-clause-goes g c left shown p at =
+    let old : ScriptMoment = script_over (to_read (script_state c.args.script.now) (g.I.Source.state c.args.input.now).left (g.R.Rng.stream c.args.rng.now))
+    (gathered (g.B.Db.state c.args.db.now) (holding c.args.output.now (g.H.Disk.state c.args.host.now) (g.H.Host.streams c.args.host.now))) in
+    let mid : LineMoment = gathered (g.B.Db.state c.args.db.now) (holding c.make_way.new.output (g.H.Disk.state c.make_way.new.host) (g.H.Host.streams c.make_way.new.host)) in
+    let new : ScriptMoment = script_over (to_read (script_state c.next_found.new.script) (g.I.Source.state c.next_found.new.input).left (g.R.Rng.stream c.word_for-word.new.rng))
+    (gathered (g.B.Db.state c.do_or_stop.new.db) (holding c.do_or_stop.new.output (g.H.Disk.state c.do_or_stop.new.host) (g.H.Host.streams c.do_or_stop.new.host))) in
+    let reads = c.in-Ok.ensures.reads in
+    let answers = reads.1.answers left shown in
+    goes_next g.B.Db.kind p old new mid _ c.word_for-word.result (command_of c.line-line.result) left answers.0 at (joins_of [] old.line.output mid.output _ c.in_default.ensures.prints) refl answers.1
+    (found_handed (found_in c.next_found.new.script.buffer) _ _ _ _ _ _ c.in-Ok.found (command_of c.line-line.result) reads.0 answers.2 reads.2 c.line-line.ensures) (ap (λ (n : ℕ). n + 1) c.lines-number.ensures.lines) c.word_for-word.ensures.word c.word_for-word.ensures.rest c.do_or_stop.result c.do_or_stop.ensures.does
+
+pub returns-in-Err-next_found-clause-goes : goal.returns-in-Err-next_found-clause-goes
+returns-in-Err-next_found-clause-goes g c left shown p at =
+    let old : ScriptMoment = script_over (to_read (script_state c.args.script.now) (g.I.Source.state c.args.input.now).left (g.R.Rng.stream c.args.rng.now))
+    (gathered (g.B.Db.state c.args.db.now) (holding c.args.output.now (g.H.Disk.state c.args.host.now) (g.H.Host.streams c.args.host.now))) in
+    let mid : LineMoment = gathered (g.B.Db.state c.args.db.now) (holding c.make_way.new.output (g.H.Disk.state c.make_way.new.host) (g.H.Host.streams c.make_way.new.host)) in
+    let new : ScriptMoment = script_over (to_read (script_state c.next_found.new.script) (g.I.Source.state c.next_found.new.input).left (g.R.Rng.stream c.args.rng.now))
+    (gathered (g.B.Db.state c.stop.new.db) (holding c.stop.new.output (g.H.Disk.state c.stop.new.host) (g.H.Host.streams c.stop.new.host))) in
+    let reads = c.in-Err-next_found.ensures.reads in
+    let answers = reads.1.answers left shown in
+    ends_next (found_in c.next_found.new.script.buffer) g.B.Db.kind p old new mid (script_state c.next_found.new.script) left answers.0 c.in_transaction.result c.in-Err-next_found.note c.stop.result reads.0 at
+    (joins_of [] old.line.output mid.output _ c.in_default.ensures.prints) refl refl c.in_transaction.ensures answers.2 reads.2 c.stop.ensures.same c.stop.ensures.some c.stop.ensures.whole
