@@ -1,4 +1,4 @@
--- What a command line asks of a database, and which jobs are built.
+-- What a command line asks of a database, and which jobs are built. What it asks of a folder stands in Rebuilding.
 use Rattle.std.specs.Prelude.{◌≡◌, Bool, true, false, List, ℕ, Option, None, Some, option_and_then, if◌then◌else◌}
 use Rattle.base_notes.specs.declared.action.Action.{Action}
 use Rattle.base_notes.specs.declared.action.Action.TheVariants.{Consistent, Show, Get, Set, Delete}
@@ -9,7 +9,7 @@ use Rattle.flat_db.specs.Sessions.{flat_kind}
 use Rattle.skip_kind.specs.Kind.{skip_kind}
 use Rattle.tool_words.specs.JobOf.{job_of}
 use Rattle.tool_words.specs.declared.jobs.Job.{Job}
-use Rattle.tool_words.specs.declared.jobs.Job.TheVariants.{Dbtool}
+use Rattle.tool_words.specs.declared.jobs.Job.TheVariants.{Dbtool, Reconstruct}
 
 -- An action over a database of some kind, which is made where it is absent if `make` says so.
 pub record Asked : Type 1 where
@@ -37,6 +37,7 @@ is_done action = false
 
 abbrev pub is_built : Job → Bool
 is_built (Dbtool make file backend action) = is_done action
+is_built (Reconstruct options folder) = true
 is_built job = false
 
 abbrev pub if_built : Job → Option Job

@@ -1,4 +1,5 @@
 pub mod Actions
 pub mod Asked
 pub mod Crashes
+pub mod Rebuilding
 pub mod Stated

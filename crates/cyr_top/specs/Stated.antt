@@ -17,6 +17,7 @@ use Rattle.db_core.specs.declared.opening.OpenFault.{OpenFault}
 use Rattle.db_core.specs.declared.opening.OpenFault.TheVariants.{Absent as NoFile, NoMemory as NoRoom, DiskFault as NoDisk, Damaged as Flawed}
 use Rattle.db_tool.specs.ToolNotes.{Faults, opening_note}
 use Rattle.cyr_top.specs.Asked.{Asked, task_for}
+use Rattle.cyr_top.specs.Rebuilding.{IsRebuildNote}
 
 -- ---- what the main file stands for
 
@@ -54,7 +55,7 @@ pub data StatedResult (asked : Asked) (main : Image) (note : Note) (output : Lis
   acted : (s : DbState) → StartsFrom asked main s → note ≡ (task_for asked s).note → output ≡ (task_for asked s).output → StatedResult asked main note output
   unopened : (fault : OpenFault) → IsUnopened asked main fault → note ≡ unopened_note asked.action fault → output ≡ unopened_output asked.action fault → StatedResult asked main note output
 
--- The notes of the jobs that are built. Of the devices only the host is used.
+-- The notes of the actions that are built, and of words that give no job. Of the devices only the host is used.
 abbrev pub IsBuilt : Note → Type 0
 IsBuilt Done = Unit {0}
 IsBuilt Answer = Unit {0}
@@ -71,9 +72,9 @@ IsBuilt note = ⊥
 
 -- ---- what every run keeps
 
--- a built note, and the host failed exactly where it says so
+-- the note of a built action or of a rebuild, and the host failed exactly where it says so
 pub record Ran (note : Note) (old new : DiskState) : Type 0 where
-  pub built : IsBuilt note
+  pub built : IsBuilt note ⊎ IsRebuildNote note
   pub faults : Faults Host note old.faults new.faults
 
 -- standard error gets the note's text, or the host ceases to show what it got

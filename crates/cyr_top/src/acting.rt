@@ -11,6 +11,7 @@ ghost use Rattle.rand_core.specs.Stream.{Stream};
 
 use crate::checking::{end_with, flaw_of, line_of_flaw};
 use crate::files::Files;
+use crate::getting::Acts;
 use base_devices::{Failed, Host};
 use base_notes::{Action, Device, Note};
 use db_core::Db;
@@ -50,8 +51,8 @@ fn check<H: Host, B: Db<H> + Drop, F: Files<H, B>>(alloc: Global, host: &mut H) 
     }
 }
 
-// Opens the main file and does an action with it.
-fn open_and_act<H: Host, B: Db<H> + Drop, F: Files<H, B>, R: Rng>(
+/// Opens the main file and does an action with it.
+pub(crate) fn open_and_act<H: Host, B: Db<H> + Drop, F: Files<H, B>, R: Rng>(
     alloc: Global,
     action: &Action,
     host: &mut H,
@@ -73,7 +74,7 @@ fn open_and_act<H: Host, B: Db<H> + Drop, F: Files<H, B>, R: Rng>(
 }
 
 // Does an action over the main file as it is.
-fn do_action<H: Host, B: Db<H> + Drop, F: Files<H, B>, R: Rng>(
+fn do_action<H: Host, B: Db<H> + Drop, F: Acts<H, B>, R: Rng>(
     alloc: Global,
     action: &Action,
     host: &mut H,
@@ -90,12 +91,12 @@ fn do_action<H: Host, B: Db<H> + Drop, F: Files<H, B>, R: Rng>(
 {
     match action {
         Action::Consistent => check::<H, B, F>(alloc, host),
-        _ => open_and_act::<H, B, F, R>(alloc, action, host, rng),
+        _ => F::act(alloc, action, host, rng),
     }
 }
 
 /// Does an action over the main file, which is made first where it is absent and `make` asks for it.
-pub(crate) fn on_files<H: Host, B: Db<H> + Drop, F: Files<H, B>, R: Rng>(
+pub(crate) fn on_files<H: Host, B: Db<H> + Drop, F: Acts<H, B>, R: Rng>(
     alloc: Global,
     make: bool,
     action: &Action,

@@ -3,6 +3,7 @@
 //!   running    `run`: words, or a job that was read from them, over a host; here the backend is chosen
 //!   files      what a backend does with its files, and each backend's
 //!   acting     an action over a file: made, checked, or opened and done
+//!   getting    the same by what a backend is best at: one value is looked for in flat text, and no map is made
 //!   checking   the line that a check prints
 //! What a run owes stands in specs/: Asked (what the words ask), Stated (note and output), Actions (what is left),
 //! Crashes (the promises in words of maps and transactions).
@@ -11,6 +12,8 @@
 mod acting;
 mod checking;
 mod files;
+mod getting;
+mod rebuilding;
 mod running;
 
 pub use running::{run, run_job};

@@ -2,23 +2,27 @@
 //! the words, the real devices and the process.
 #![tactic(auto)]
 
-ghost use Rattle.std.specs.Prelude.{◌≡◌, true, [], None, IfOk, map, string_bytes};
+ghost use Rattle.std.specs.Prelude.{◌≡◌, true, [], None, IfOk, map, string_bytes, unwrap_or};
 ghost use Rattle.std.specs.Process.{exit_status};
 ghost use Rattle.base_devices.specs.HostCalls.{moment};
+ghost use Rattle.base_devices.specs.SpoolCalls.{GaveNoName, shown_files};
+ghost use Rattle.base_notes.specs.declared.note.Device.TheVariants.{Spool as SpoolDevice};
 ghost use Rattle.base_notes.specs.declared.note.Note.{Note};
 ghost use Rattle.base_notes.specs.Notes.{status_of};
 ghost use Rattle.cyr_top.specs.Actions.{but_warned};
 ghost use Rattle.cyr_top.specs.Asked.{OnDatabase, built_job_of, is_built};
 ghost use Rattle.cyr_top.specs.Crashes.{KeepsPromises};
+ghost use Rattle.cyr_top.specs.Rebuilding.{DoesRebuild, OnFolder, rebuild_of};
 ghost use Rattle.cyr_top.specs.Stated.{Ran, Warns};
 ghost use Rattle.db_tool.specs.Tasks.{given};
-ghost use Rattle.tool_words.specs.PathsOf.{main_path_of};
+ghost use Rattle.db_tool.specs.ToolNotes.{Faults};
+ghost use Rattle.tool_words.specs.PathsOf.{folder_path_of, main_path_of};
 
 use base_bytes::{NoMemory, Text};
-use base_devices::Host;
+use base_devices::{Host, Spool};
 use base_notes::STATUS_NO_MEMORY;
 use cyr_top::{Job, WordFault, job, paths, run, run_job};
-use disk_kinds::FileHost;
+use disk_kinds::{FileHost, FileSpool};
 use rand_core::Rng;
 use rand_pcg::Pcg32;
 use std::alloc::Global;
@@ -59,33 +63,57 @@ fn nanoseconds(clock: &impl Clock) -> u64 {
     }
 }
 
+// The seconds since 1970, or 0 where the clock cannot be read.
+fn seconds(clock: &impl Clock) -> u64 {
+    match clock.since_1970() {
+        Ok(time) => time.as_secs(),
+        Err(_) => 0,
+    }
+}
+
 // Does the job, and ends with the status of its note.
-fn end_job<H: Host, R: Rng>(alloc: Global, job: &Job, host: &mut H, rng: &mut R) -> ExitCode
+fn end_job<H: Host, S: Spool, R: Rng>(
+    alloc: Global,
+    job: &Job,
+    host: &mut H,
+    spool: &mut S,
+    now: u64,
+    rng: &mut R,
+) -> ExitCode
+    requires { GaveNoName (S.state spool.old) }
     ensures note { (note : Note) × (exit_status result ≡ status_of note)
         × Warns note (H.streams host.old) (H.streams host.new)
         × Ran note (H.state host.old) (H.state host.new)
+        × Faults SpoolDevice note (S.state spool.old).faults (S.state spool.new).faults
         × (is_built job.now ≡ true → OnDatabase (given (R.stream rng.old) [])
         (λ asked. KeepsPromises asked (moment (H.state host.old) (H.streams host.old))
-        (but_warned (H.state host.new) (H.streams host.old) (H.streams host.new)) note) job.now) }
+        (but_warned (H.state host.new) (H.streams host.old) (H.streams host.new)) note) job.now)
+        × OnFolder (λ options. DoesRebuild (rebuild_of (S.state spool.old) now options)
+        (moment (H.state host.old) (H.streams host.old))
+        (but_warned (H.state host.new) (H.streams host.old) (H.streams host.new)) note) job.now }
+    ensures files { shown_files (S.state spool.new) ≡ shown_files (S.state spool.old) }
     ensures rest { H.host_rest host.old host.new }
 {
-    ExitCode::from(run_job(alloc, job, host, rng).status)
+    ExitCode::from(run_job(alloc, job, host, spool, now, rng).status)
 }
 
 // Answers words that stand for no job, and ends with the status of the note.
-fn end_words<H: Host, R: Rng>(
+fn end_words<H: Host, S: Spool, R: Rng>(
     alloc: Global,
     words: &[String],
     host: &mut H,
+    spool: &mut S,
+    now: u64,
     rng: &mut R,
 ) -> ExitCode
+    requires { GaveNoName (S.state spool.old) }
     ensures note { (note : Note) × (exit_status result ≡ status_of note)
         × Warns note (H.streams host.old) (H.streams host.new)
         × Ran note (H.state host.old) (H.state host.new)
         × (note ≡ Note.Usage → built_job_of (map string_bytes words.now) ≡ None) }
     ensures rest { H.host_rest host.old host.new }
 {
-    ExitCode::from(run(alloc, words, host, rng).status)
+    ExitCode::from(run(alloc, words, host, spool, now, rng).status)
 }
 
 // The path of the job's main file.
@@ -93,6 +121,17 @@ fn main_path(alloc: Global, job: &Job) -> Result<Text, NoMemory>
     ensures { IfOk result (λ path. path ≡ main_path_of job.now) }
 {
     Ok(paths(alloc, job)?.main)
+}
+
+// The path of the job's folder, or an empty one where it has none.
+fn folder_path(alloc: Global, job: &Job) -> Result<Text, NoMemory>
+    ensures { IfOk result (λ path. path ≡ unwrap_or (folder_path_of job.now) []) }
+{
+    let folder = paths(alloc, job)?.folder;
+    match folder {
+        Some(path) => Ok(path),
+        None => Text::of(alloc, ""),
+    }
 }
 
 fn main(rt: HostRuntime) -> ExitCode {
@@ -104,20 +143,31 @@ fn main(rt: HostRuntime) -> ExitCode {
         Err(_) => return refused(&rt, "no words", STATUS_NO_WORDS),
     };
     let alloc = rt.alloc();
+    let now = seconds(&rt);
     let mut rng = Pcg32::new(nanoseconds(&rt), 0);
     match job(alloc, &words) {
         Ok(job) => {
-            let Ok(path) = main_path(alloc, &job) else {
+            let Ok(main) = main_path(alloc, &job) else {
                 return refused(&rt, "no memory", STATUS_NO_MEMORY);
             };
-            end_job(alloc, &job, &mut FileHost::new(rt, path), &mut rng)
+            let Ok(folder) = folder_path(alloc, &job) else {
+                return refused(&rt, "no memory", STATUS_NO_MEMORY);
+            };
+            let mut spool = FileSpool::new(rt, folder);
+            let mut host = FileHost::new(rt, main);
+            end_job(alloc, &job, &mut host, &mut spool, now, &mut rng)
         }
         Err(WordFault::NoMemory) => refused(&rt, "no memory", STATUS_NO_MEMORY),
         Err(WordFault::Usage) => {
-            let Ok(path) = Text::of(alloc, "") else {
+            let Ok(main) = Text::of(alloc, "") else {
                 return refused(&rt, "no memory", STATUS_NO_MEMORY);
             };
-            end_words(alloc, &words, &mut FileHost::new(rt, path), &mut rng)
+            let Ok(folder) = Text::of(alloc, "") else {
+                return refused(&rt, "no memory", STATUS_NO_MEMORY);
+            };
+            let mut spool = FileSpool::new(rt, folder);
+            let mut host = FileHost::new(rt, main);
+            end_words(alloc, &words, &mut host, &mut spool, now, &mut rng)
         }
     }
 }

@@ -1,6 +1,7 @@
 // A run over devices in memory, and what must come of it.
+use base_bytes::NoMemory;
 use cyr_top::run;
-use disk_kinds::{MemDisk, MemHost};
+use disk_kinds::{MemDisk, MemHost, MemSpool};
 use rand_pcg::Pcg32;
 use std::alloc::{AllocError, Global};
 use std::process::Abort;
@@ -55,10 +56,15 @@ pub(crate) fn host_of(
     Ok(MemHost::new(alloc, disk, ROOM, tells)?)
 }
 
-// The status of a run.
-pub(crate) fn status_of(alloc: Global, words: &[String], host: &mut MemHost) -> u8 {
+// The status of a run beside a folder without files.
+pub(crate) fn status_of(
+    alloc: Global,
+    words: &[String],
+    host: &mut MemHost,
+) -> Result<u8, NoMemory> {
+    let mut spool = MemSpool::new(alloc)?;
     let mut rng = Pcg32::new(42, 54);
-    run(alloc, words, host, &mut rng).status
+    Ok(run(alloc, words, host, &mut spool, 0, &mut rng).status)
 }
 
 // What the host was told, and what its file then reads.
@@ -96,7 +102,7 @@ pub(crate) fn assert_case(
 ) -> Result<(), Fail> {
     let words = action_words(alloc, case.make, case.action)?;
     let mut host = host_of(alloc, case.before, calls, tells)?;
-    let status = status_of(alloc, &words, &mut host);
+    let status = status_of(alloc, &words, &mut host)?;
     assert_eq!(rt;
         status,
         case.status,

@@ -64,7 +64,7 @@ fn assert_left(
     assert_eq!(rt; disk.main(), left);
     let mut next = MemHost::new(alloc, disk, ROOM, &[])?;
     let words = action_words(alloc, true, "consistent")?;
-    assert_eq!(rt; status_of(alloc, &words, &mut next), 0);
+    assert_eq!(rt; status_of(alloc, &words, &mut next)?, 0);
     assert_eq!(rt; next.told(), b"consistent\n".as_slice());
     Ok(())
 }
@@ -72,7 +72,7 @@ fn assert_left(
 fn assert_row(rt: &impl Abort, alloc: Global, row: &Row) -> Result<(), Fail> {
     let words = action_words(alloc, row.make, row.action)?;
     let mut host = host_of(alloc, row.before, &[row.publish], &[])?;
-    assert_eq!(rt; status_of(alloc, &words, &mut host), 74, "{}", row.action);
+    assert_eq!(rt; status_of(alloc, &words, &mut host)?, 74, "{}", row.action);
     assert_left(rt, alloc, &host, &[], row.old)?;
     assert_left(rt, alloc, &host, &[true], Some(row.new))
 }

@@ -158,14 +158,14 @@ fn second_tell_fails(rt: HostRuntime) -> Result<(), Fail> {
     let line = long_line(alloc, 80_000)?;
     let words = action_words(alloc, false, "show")?;
     let mut host = host_of(alloc, Some(line.as_slice()), &[], &[2])?;
-    assert_eq!(rt; status_of(alloc, &words, &mut host), 74);
+    assert_eq!(rt; status_of(alloc, &words, &mut host)?, 74);
     assert_eq!(rt; host.warned(), FAULT.as_bytes());
     assert_eq!(rt; host.told().len(), 65_536);
     assert!(rt; line.starts_with(host.told()));
     assert_eq!(rt; host.disk().main(), Some(line.as_slice()));
 
     let mut host = host_of(alloc, Some(line.as_slice()), &[], &[3])?;
-    assert_eq!(rt; status_of(alloc, &words, &mut host), 0);
+    assert_eq!(rt; status_of(alloc, &words, &mut host)?, 0);
     assert_eq!(rt; host.told(), line.as_slice());
     Ok(())
 }

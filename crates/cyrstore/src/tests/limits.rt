@@ -46,13 +46,13 @@ fn key_limit(rt: HostRuntime) -> Result<(), Fail> {
     for main in [None, Some(b"".as_slice())] {
         let mut host = host_of(alloc, main, &[], &[])?;
         let words = set_words(alloc, true, key.as_str(), "v")?;
-        assert_eq!(rt; status_of(alloc, &words, &mut host), 0);
+        assert_eq!(rt; status_of(alloc, &words, &mut host)?, 0);
         assert_eq!(rt; host.disk().main(), Some(line.as_slice()));
 
         let mut host = host_of(alloc, main, &[], &[])?;
         let longer = "k".repeat(alloc, KEY_LIMIT as usize + 1)?;
         let words = set_words(alloc, true, longer.as_str(), "v")?;
-        assert_eq!(rt; status_of(alloc, &words, &mut host), 70);
+        assert_eq!(rt; status_of(alloc, &words, &mut host)?, 70);
         assert_eq!(rt; host.warned(), b"limit key: 65535\n".as_slice());
         assert_eq!(rt; host.disk().main(), Some(b"".as_slice()));
     }
@@ -68,7 +68,7 @@ fn longer_key_is_absent(rt: HostRuntime) -> Result<(), Fail> {
         let mut words = action_words(alloc, false, action)?;
         words.push(String::from_str(alloc, key.as_str())?)?;
         let mut host = host_of(alloc, Some(b"k\t1"), &[], &[])?;
-        assert_eq!(rt; status_of(alloc, &words, &mut host), status, "{action}");
+        assert_eq!(rt; status_of(alloc, &words, &mut host)?, status, "{action}");
         assert_eq!(rt; host.warned(), b"".as_slice());
         assert_eq!(rt; host.disk().main(), Some(b"k\t1".as_slice()));
     }
@@ -81,7 +81,7 @@ fn value_limit(rt: HostRuntime) -> Result<(), Fail> {
     let value = "v".repeat(alloc, VALUE_LIMIT as usize + 1)?;
     let words = set_words(alloc, false, "b", value.as_str())?;
     let mut host = host_of(alloc, Some(b"a\t1"), &[], &[])?;
-    assert_eq!(rt; status_of(alloc, &words, &mut host), 70);
+    assert_eq!(rt; status_of(alloc, &words, &mut host)?, 70);
     assert_eq!(rt; host.warned(), b"limit value: 16777217\n".as_slice());
     assert_eq!(rt; host.disk().main(), Some(b"a\t1".as_slice()));
     Ok(())
@@ -97,7 +97,7 @@ fn assert_large(
 ) -> Result<(), Fail> {
     let (status, warned, left) = wanted;
     let mut host = large_host(alloc, main)?;
-    assert_eq!(rt; status_of(alloc, words, &mut host), status);
+    assert_eq!(rt; status_of(alloc, words, &mut host)?, status);
     assert_eq!(rt; host.warned(), warned.as_bytes());
     assert!(rt; host.disk().main() == Some(left), "another file");
     Ok(())
@@ -188,7 +188,7 @@ fn assert_size(rt: &impl Abort, alloc: Global, row: Size) -> Result<(), Fail> {
     let mut text = text_of(alloc, size as usize)?;
     let mut host = large_host(alloc, &text)?;
     let words = action_words(alloc, false, action)?;
-    assert_eq!(rt; status_of(alloc, &words, &mut host), status);
+    assert_eq!(rt; status_of(alloc, &words, &mut host)?, status);
     assert_eq!(rt; host.told(), told.as_bytes());
     assert_eq!(rt; host.warned(), warned.as_bytes());
     text.extend_from_slice(added)?;
@@ -230,7 +230,7 @@ fn file_over_the_limit_is_refused(rt: HostRuntime) -> Result<(), Fail> {
     let mut host = large_host(alloc, &text)?;
     for action in ["show", "get ", "set b 1", "delete a", "consistent"] {
         let words = action_words(alloc, false, action)?;
-        assert_eq!(rt; status_of(alloc, &words, &mut host), 70, "{action}");
+        assert_eq!(rt; status_of(alloc, &words, &mut host)?, 70, "{action}");
     }
     let warned = "limit file: 67108865\n".repeat(alloc, 5)?;
     assert_eq!(rt; host.warned(), warned.as_bytes());

@@ -65,7 +65,7 @@ const TAKEN: [(&str, u8, &[u8]); 6] = [
 
 fn assert_usage(rt: &impl Abort, alloc: Global, words: &[String]) -> Result<(), Fail> {
     let mut host = host_of(alloc, Some(b"a\t1\n"), &[], &[])?;
-    assert_eq!(rt; status_of(alloc, words, &mut host), 64, "of {words:?}");
+    assert_eq!(rt; status_of(alloc, words, &mut host)?, 64, "of {words:?}");
     assert_eq!(rt; host.warned(), b"usage\n".as_slice());
     assert_eq!(rt; host.told(), b"".as_slice());
     assert_eq!(rt; host.disk().main(), Some(b"a\t1\n".as_slice()));
@@ -91,7 +91,7 @@ fn flag_and_word_may_stand_so(rt: HostRuntime) -> Result<(), Fail> {
     for (line, status, after) in TAKEN {
         let mut host = host_of(alloc, None, &[], &[])?;
         let words = words_of(alloc, line)?;
-        assert_eq!(rt; status_of(alloc, &words, &mut host), status, "of {line:?}");
+        assert_eq!(rt; status_of(alloc, &words, &mut host)?, status, "of {line:?}");
         assert_eq!(rt; host.disk().main(), Some(after), "of {line:?}");
     }
     Ok(())
@@ -103,7 +103,7 @@ fn wrong_words_make_no_file(rt: HostRuntime) -> Result<(), Fail> {
     let alloc = rt.alloc();
     let mut host = host_of(alloc, None, &[], &[])?;
     let words = words_of(alloc, "cyr_dbtool -n f flat get -k")?;
-    assert_eq!(rt; status_of(alloc, &words, &mut host), 64);
+    assert_eq!(rt; status_of(alloc, &words, &mut host)?, 64);
     assert!(rt; host.disk().main().is_none());
     Ok(())
 }

@@ -6,8 +6,10 @@ use Rattle.db_tool.specs.Tasks.{given}
 use Rattle.cyr_top.specs.Actions.{DoesAction, DrawsFor, but_warned}
 use Rattle.cyr_top.specs.Asked.{Asked}
 use Rattle.cyr_top.specs.Crashes.{KeepsPromises}
+use Rattle.cyr_top.specs.Rebuilding.{DoesRebuild, rebuild_of}
 use Rattle.cyr_top.proofs.CrashLemmas.{promised}
 use Rattle.cyr_top.proofs.JobLemmas.{on_job}
+use Rattle.cyr_top.proofs.RebuildingLemmas.{on_folder, rebuild_still}
 use Rattle.cyr_top.proofs.running.run.Given.{Over}
 use Rattle.cyr_top.proofs.running.run.Goals as goal
 
@@ -43,3 +45,11 @@ returns-clause-draws g c = λ job is. on_job (given (g.R.Rng.stream c.args.rng.n
     (λ asked. DrawsFor asked (g.H.Disk.state c.args.host.now) (g.R.Rng.stream c.args.rng.now) (g.R.Rng.stream c.do_words-note.new.rng) c.end_run.result.note)
     (λ asked laws draws. subst (λ (n : Note). DrawsFor asked (g.H.Disk.state c.args.host.now) (g.R.Rng.stream c.args.rng.now) (g.R.Rng.stream c.do_words-note.new.rng) n) (sym c.end_run.ensures.note) draws)
     job (c.do_words-note.ensures.draws job is)
+
+pub returns-clause-rebuilds : goal.returns-clause-rebuilds
+returns-clause-rebuilds g c = λ job is. on_folder
+    (λ options. DoesRebuild (rebuild_of (g.S.Spool.state c.args.spool.now) c.args.now options) (moment (g.H.Disk.state c.args.host.now) (g.H.Host.streams c.args.host.now)) (moment (g.H.Disk.state c.do_words-note.new.host) (g.H.Host.streams c.do_words-note.new.host)) c.do_words-note.result)
+    (λ options. DoesRebuild (rebuild_of (g.S.Spool.state c.args.spool.now) c.args.now options) (moment (g.H.Disk.state c.args.host.now) (g.H.Host.streams c.args.host.now)) (but_warned (g.H.Disk.state c.end_run.new.host) (g.H.Host.streams c.args.host.now) (g.H.Host.streams c.end_run.new.host)) c.end_run.result.note)
+    (λ options does. subst (λ (n : Note). DoesRebuild (rebuild_of (g.S.Spool.state c.args.spool.now) c.args.now options) (moment (g.H.Disk.state c.args.host.now) (g.H.Host.streams c.args.host.now)) (but_warned (g.H.Disk.state c.end_run.new.host) (g.H.Host.streams c.args.host.now) (g.H.Host.streams c.end_run.new.host)) n) (sym c.end_run.ensures.note)
+    (rebuild_still (rebuild_of (g.S.Spool.state c.args.spool.now) c.args.now options) (g.H.Host.streams c.args.host.now) (g.H.Host.streams c.do_words-note.new.host) (g.H.Host.streams c.end_run.new.host) _ _ _ c.do_words-note.result c.end_run.ensures.disk c.end_run.ensures.told c.end_run.ensures.tell_faults does))
+    job (c.do_words-note.ensures.rebuilds job is)

@@ -4,8 +4,10 @@ use Rattle.base_notes.specs.declared.note.Note.{Note}
 use Rattle.db_tool.specs.Tasks.{given}
 use Rattle.cyr_top.specs.Actions.{DoesAction, but_warned}
 use Rattle.cyr_top.specs.Crashes.{KeepsPromises}
+use Rattle.cyr_top.specs.Rebuilding.{DoesRebuild, rebuild_of}
 use Rattle.cyr_top.proofs.CrashLemmas.{promised}
 use Rattle.cyr_top.proofs.JobLemmas.{on_job}
+use Rattle.cyr_top.proofs.RebuildingLemmas.{on_folder, rebuild_still}
 use Rattle.cyr_top.proofs.running.run_job.Goals as goal
 
 pub returns-clause-promises : goal.returns-clause-promises
@@ -15,3 +17,11 @@ returns-clause-promises g c = λ built. on_job (given (g.R.Rng.stream c.args.rng
     (λ asked laws does. subst (λ (n : Note). KeepsPromises asked (moment (g.H.Disk.state c.args.host.now) (g.H.Host.streams c.args.host.now)) (but_warned (g.H.Disk.state c.end_run.new.host) (g.H.Host.streams c.args.host.now) (g.H.Host.streams c.end_run.new.host)) n) (sym c.end_run.ensures.note)
     (promised asked laws (g.H.Host.streams c.args.host.now) (g.H.Host.streams c.do_job-note.new.host) (g.H.Host.streams c.end_run.new.host) _ _ _ c.do_job-note.result (g.met.H.Host.host_goes_on _ _ (g.met.H.Host.host_then _ _ _ c.do_job-note.ensures.rest c.end_run.ensures.rest)) (g.met.H.Disk.is_moment _) (g.met.H.Disk.is_moment _) c.end_run.ensures.disk c.end_run.ensures.told c.end_run.ensures.tell_faults does))
     c.args.job.now (c.do_job-note.ensures.does built)
+
+pub returns-clause-rebuilds : goal.returns-clause-rebuilds
+returns-clause-rebuilds g c = on_folder
+    (λ options. DoesRebuild (rebuild_of (g.S.Spool.state c.args.spool.now) c.args.now options) (moment (g.H.Disk.state c.args.host.now) (g.H.Host.streams c.args.host.now)) (moment (g.H.Disk.state c.do_job-note.new.host) (g.H.Host.streams c.do_job-note.new.host)) c.do_job-note.result)
+    (λ options. DoesRebuild (rebuild_of (g.S.Spool.state c.args.spool.now) c.args.now options) (moment (g.H.Disk.state c.args.host.now) (g.H.Host.streams c.args.host.now)) (but_warned (g.H.Disk.state c.end_run.new.host) (g.H.Host.streams c.args.host.now) (g.H.Host.streams c.end_run.new.host)) c.end_run.result.note)
+    (λ options does. subst (λ (n : Note). DoesRebuild (rebuild_of (g.S.Spool.state c.args.spool.now) c.args.now options) (moment (g.H.Disk.state c.args.host.now) (g.H.Host.streams c.args.host.now)) (but_warned (g.H.Disk.state c.end_run.new.host) (g.H.Host.streams c.args.host.now) (g.H.Host.streams c.end_run.new.host)) n) (sym c.end_run.ensures.note)
+    (rebuild_still (rebuild_of (g.S.Spool.state c.args.spool.now) c.args.now options) (g.H.Host.streams c.args.host.now) (g.H.Host.streams c.do_job-note.new.host) (g.H.Host.streams c.end_run.new.host) _ _ _ c.do_job-note.result c.end_run.ensures.disk c.end_run.ensures.told c.end_run.ensures.tell_faults does))
+    c.args.job.now c.do_job-note.ensures.rebuilds
