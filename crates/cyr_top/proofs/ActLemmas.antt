@@ -169,6 +169,7 @@ module _ (kind : DbKind) (laws : DbLaws kind) (action : Action) (g : Given) wher
       told = printed.told ∙ ap (λ (h : HostState). told_with h.told l) silent;
       warned = printed.warned ∙ ap (λ (h : HostState). h.warned) silent;
       later = omega (arith, marks, disk.mark);
+      most = omega (arith, printed.most, disk.mark);
       marked = λ some. omega (arith, printed.marked (subst (λ (h : HostState). IsSome h.told) (sym silent) some), disk.mark);
     }
 

@@ -57,6 +57,7 @@ module _ (kind : DbKind) (laws : DbLaws kind) (g : Given) where
       told = printed.told ∙ ap (λ (h : HostState). told_with h.told l) silent;
       warned = printed.warned ∙ ap (λ (h : HostState). h.warned) silent;
       later = omega (arith, marks, stays.mark);
+      most = omega (arith, printed.most, stays.mark);
       marked = λ some. omega (arith, printed.marked (subst (λ (h : HostState). IsSome h.told) (sym silent) some), stays.mark);
     }
 

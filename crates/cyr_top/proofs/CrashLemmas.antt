@@ -123,6 +123,7 @@ does_disk asked o p d x e note same does = record {
           told = some.grew.told;
           warned = some.grew.warned;
           later = omega (arith, some.grew.later, same.mark);
+          most = omega (arith, some.grew.most, same.mark);
           marked = λ shown. omega (arith, some.grew.marked shown, same.mark);
         };
       };

@@ -274,6 +274,7 @@ module _ (kind : DbKind) (laws : DbLaws kind) (action : Action) (g : Given) wher
           told = some.grew.told ∙ ap (λ (h : Option (List ℕ)). told_with h some.printed) told_before;
           warned = some.grew.warned ∙ ap (λ (h : HostState). h.warned) silent;
           later = omega (arith, marks, made.mark);
+          most = omega (arith, some.grew.most, made.mark);
           marked = λ is. omega (arith, some.grew.marked (subst (λ (h : HostState). IsSome h.told) (sym silent) is), made.mark);
         };
       }

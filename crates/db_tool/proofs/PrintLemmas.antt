@@ -24,13 +24,14 @@ some_with None p a is some = absurd (cc some)
 some_with (Some l) p a is some = subst IsSome (sym is) refl
 
 pub printed_none : (m : HostMoment) → Printed [] m m
-printed_none m = record { told = told_none m.streams.told; warned = refl; later = omega arith; marked = λ _. omega arith }
+printed_none m = record { told = told_none m.streams.told; warned = refl; later = omega arith; most = omega arith; marked = λ _. omega arith }
 
 pub printed_then : (m n o : HostMoment) (a b : List ℕ) → Printed a m n → Printed b n o → Printed (a ++ b) m o
 printed_then m n o a b first second = record {
   told = second.told ∙ ap (λ (l : Option (List ℕ)). told_with l b) first.told ∙ told_twice m.streams.told a b;
   warned = second.warned ∙ first.warned;
   later = omega (arith, first.later, second.later);
+  most = omega (arith, first.most, second.most, length-append a b);
   marked = λ some. omega (arith, first.marked some, second.marked (some_with m.streams.told n.streams.told a first.told some), length-append a b);
 }
 
@@ -40,6 +41,7 @@ printed_still m n same mark = record {
   told = ap (λ (s : HostState). s.told) same ∙ told_none m.streams.told;
   warned = ap (λ (s : HostState). s.warned) same;
   later = omega (arith, mark);
+  most = omega (arith, mark);
   marked = λ _. omega (arith, mark);
 }
 
@@ -114,6 +116,7 @@ prints_done held slice s t o p x same told warned moves keeps cause = record {
       told = told ∙ ap (told_with o.told) same;
       warned = warned;
       later = moves.from;
+      most = omega (arith, moves.to, ap length same);
       marked = λ some. moves.whole some ∙ ap (λ (l : List ℕ). s.mark + length l) same;
     };
   };
@@ -137,6 +140,7 @@ prints_failed {T = T} held slice s t o p fault same told warned moves keeps caus
           told = told ∙ ap (λ (l : List ℕ). told_with o.told (take k l)) same;
           warned = warned;
           later = moves.from;
+          most = omega (arith, moves.from, length-take-le k held few);
           marked = λ some. omega (arith, moves.from, length-take-le k held few);
         };
       };

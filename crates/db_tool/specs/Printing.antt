@@ -28,6 +28,7 @@ pub record Printed (bytes : List ℕ) (old new : HostMoment) : Type 0 where
   pub told : new.streams.told ≡ told_with old.streams.told bytes
   pub warned : new.streams.warned ≡ old.streams.warned
   pub later : old.disk.mark ≤ new.disk.mark
+  pub most : new.disk.mark ≤ old.disk.mark + length bytes
   pub marked : IsSome old.streams.told → new.disk.mark ≡ old.disk.mark + length bytes
 
 -- a prefix of the output was printed
