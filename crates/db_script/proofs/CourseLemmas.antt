@@ -1,17 +1,21 @@
 -- One line after the other, to the stated end.
-use Rattle.std.proofs.Common.{zero, suc, ◌≡◌, ◌∙◌, ◌⊎◌, inl, inr, ⊎_elim, ℕ, ◌+◌, ◌≤◌, ◌<◌, Bool, true, false, List, [], ◌∷◌, ◌++◌, Option, Some, None, Result, Ok, Err, length, refl, sym, ap, subst, arith, append_assoc}
+use Rattle.std.proofs.Common.{zero, suc, ◌≡◌, ◌∙◌, ◌⊎◌, inl, inr, ⊎_elim, ℕ, ◌+◌, ◌≤◌, ◌<◌, Bool, true, false, List, [], ◌∷◌, ◌++◌, Option, Some, None, Result, Ok, Err, length, refl, sym, ap, subst, arith, append_assoc, length-append}
 use Rattle.std.proofs.lemmas.List.{append-nil}
 use Rattle.std.proofs.lemmas.Bool.{ltb-true, lt-ltb}
 use Rattle.std.specs.Option.{option_map}
 use Rattle.std.specs.Prelude.{if◌then◌else◌, nat_lt}
 use Rattle.base_bytes.specs.declared.change.Change.{Change}
 use Rattle.base_bytes.specs.declared.limits.TheConstants.{SCRIPT_LIMIT}
+use Rattle.base_devices.specs.CrashImages.{Image, GoesOn}
+use Rattle.base_devices.specs.Frames.{LeavesBetween}
 use Rattle.base_devices.specs.HostCalls.{HostMoment}
+use Rattle.base_devices.proofs.Moments.{each_then}
 use Rattle.base_notes.specs.declared.note.Device.TheVariants.{Host}
 use Rattle.base_notes.specs.declared.note.LimitName.TheVariants.{Script}
 use Rattle.base_notes.specs.declared.note.Note.{Note}
 use Rattle.base_notes.specs.declared.note.Note.TheVariants.{Done, BadLine, Limit, DeviceFault}
 use Rattle.base_notes.specs.declared.note.Device.TheVariants.{Input}
+use Rattle.db_core.specs.Calls.{OpensCommitted}
 use Rattle.db_core.specs.Sessions.{DbKind, DbState, aborted}
 use Rattle.db_core.specs.declared.fault.DbFault.{DbFault}
 use Rattle.db_tool.specs.Printing.{Printed, PrintsSome, PrintMoment, Prints}
@@ -23,13 +27,15 @@ use Rattle.db_script.specs.Lines.{Command, begin, commit, abort, show, get, set,
 use Rattle.db_script.specs.Replies.{is_placed, change_of, owed_by, reply_of, session_after}
 use Rattle.db_script.specs.Scripts.{Reply, Progress, Ending, ends, unless_owed, do_command, do_line, goes_on, after_line, ending_of, joined, word_of, words_of, words_behind}
 use Rattle.db_script.specs.Steps.{asked, LineMoment, line_note, JoinsOutput, LineDone, EndsWhole, EndsAtLine, DoesOrEnds}
-use Rattle.db_script.specs.Course.{ScriptMoment, IsAt, NextDone, NextEnds, EndsStated, DoesNext}
+use Rattle.db_script.specs.Course.{ScriptMoment, IsAt, IsLeft, LeavesNext, NextDone, NextEnds, EndsStated, DoesNext}
+use Rattle.db_script.specs.Moments.{MayBeDone, IsFromAfter, LeavesLine}
 use Rattle.db_script.specs.Batch.{end_note, found_or_note}
 use Rattle.db_script.specs.Reading.{ScriptState, HandsOut, AnswersLine, to_come}
 use Rattle.db_script.specs.declared.script.ScriptFault.{ScriptFault}
 use Rattle.db_script.specs.declared.script.ScriptFault.TheVariants.{TooLong, BadLine as IsBad, NoMemory, InputFault}
 use Rattle.rand_core.specs.Stream.{Stream, next_u32}
 use Rattle.db_script.proofs.LineLemmas.{no_lines}
+use Rattle.db_script.proofs.StandLemmas.{stands_line, more_by}
 use Rattle.db_script.proofs.StepLemmas.{failed_or_not}
 
 -- ---- the replies of more lines
@@ -223,6 +229,93 @@ whole_then old mid new same joins whole = record {
   session = whole.session ∙ ap (λ (s : DbState). aborted s) same;
 }
 
+-- ---- what is left
+
+-- how much is printed, with what is gathered
+pub joins_most : (bytes : List ℕ) (m n : PrintMoment) → JoinsOutput bytes m n → n.host.disk.mark + length n.held ≤ m.host.disk.mark + length (m.held ++ bytes)
+joins_most bytes m n joins =
+    omega (arith, joins.some.grew.most, ap length joins.rest, ap length joins.some.whole, length-append joins.some.printed joins.some.unprinted)
+
+-- an image of what was committed before
+left_here : (kind : DbKind) (p : Progress) (e : Ending) (rest : List (List ℕ)) (MayBe : Progress → Type 0) (old : PrintMoment) (c : Image) (n : ℕ) → ending_of kind p rest ≡ e → kind.opens c p.session.committed
+    → n ≤ old.host.disk.mark + length old.held → IsLeft kind p e MayBe old c n
+left_here kind p e rest MayBe old c n leads opens within = record {
+  reached = p;
+  rest = rest;
+  leads = leads;
+  which = inl refl;
+  stands = λ start so. so;
+  opens = opens;
+  reply = [];
+  replies = sym (append-nil (joined p.replies));
+  within = omega (arith, within, length-append old.held []);
+}
+
+-- what is gathered was printed in part
+pub ends_printing : {T E : Type 0} (kind : DbKind) (p : Progress) (old new : ScriptMoment) (left : List ℕ) (note : Note) (fault : E) → IsAt p old → IsFault note
+    → LeavesBetween old.line.output.host.disk new.line.output.host.disk (OpensCommitted kind old.line.session) → Prints {T = T} [] old.line.output new.line.output (Err fault)
+    → NextEnds kind p (ending_of kind p (lines_of (to_come old.reads.script left))) old new note
+ends_printing kind p old new left note fault at failed way prints = record {
+  reached = p;
+  rest = lines_of (to_come old.reads.script left);
+  leads = refl;
+  reply = [];
+  replies = sym (append-nil (joined p.replies));
+  prints = prints.some;
+  stated = inl (inl failed);
+  moments = record {
+    later = prints.some.grew.later;
+    each = record {
+      each = λ c n left_now.
+          let q = way.each c n left_now in (
+            q.0,
+            q.1,
+            left_here kind p _ (lines_of (to_come old.reads.script left)) (λ _. IsFault note) old.line.output c n refl (subst (λ (s : DbState). kind.opens c s.committed) (sym at.session) q.2)
+                (omega (arith, q.1, prints.some.grew.most, ap length prints.some.whole, length-append prints.some.printed prints.some.unprinted, length-append old.line.output.held [])),
+          );
+    };
+  };
+}
+
+-- what is gathered was printed first
+module _ (kind : DbKind) (p : Progress) (e : Ending) (rest : List (List ℕ)) (MayBe : Progress → Type 0) (old new : ScriptMoment) (mid : LineMoment) (leads : ending_of kind p rest ≡ e) (at : IsAt p old)
+    (joins : JoinsOutput [] old.line.output mid.output) (way : LeavesBetween old.line.output.host.disk mid.output.host.disk (OpensCommitted kind old.line.session)) where
+  most : mid.output.host.disk.mark + length mid.output.held ≤ old.line.output.host.disk.mark + length old.line.output.held
+  most = omega (arith, joins_most [] old.line.output mid.output joins, length-append old.line.output.held [])
+
+  first_left : (c : Image) (n : ℕ) → mid.output.host.disk.left_since old.line.output.host.disk.clock c n
+      → (old.line.output.host.disk.mark ≤ n) × (n ≤ mid.output.host.disk.mark) × IsLeft kind p e MayBe old.line.output c n
+  first_left c n left =
+      let q = way.each c n left in
+      (q.0, q.1, left_here kind p e rest MayBe old.line.output c n leads (subst (λ (s : DbState). kind.opens c s.committed) (sym at.session) q.2) (omega (arith, q.1, most)))
+
+  -- no more was done
+  pub left_printed : new.line.output.host ≡ mid.output.host → LeavesNext kind p e MayBe old new
+  left_printed same =
+      subst (λ (h : HostMoment). LeavesNext kind p e MayBe old (record { reads = new.reads; line = record { session = new.line.session; output = record { held = new.line.output.held; host = h } } })) (sym same)
+      (record { later = joins.some.grew.later; each = record { each = first_left } })
+
+  module _ (om : GoesOn old.line.output.host.disk mid.output.host.disk) (mn : GoesOn mid.output.host.disk new.line.output.host.disk) (later : mid.output.host.disk.mark ≤ new.line.output.host.disk.mark) where
+    pub left_then : ((c : Image) (n : ℕ) → new.line.output.host.disk.left_since mid.output.host.disk.clock c n
+        → (mid.output.host.disk.mark ≤ n) × (n ≤ new.line.output.host.disk.mark) × IsLeft kind p e MayBe old.line.output c n) → LeavesNext kind p e MayBe old new
+    left_then behind = record {
+      later = omega (arith, joins.some.grew.later, later);
+      each = each_then old.line.output.host.disk mid.output.host.disk new.line.output.host.disk _ om mn
+          (record { each = λ c n left. let q = first_left c n left in (q.0, omega (arith, q.1, later), q.2) })
+          (record { each = λ c n left. let q = behind c n left in (omega (arith, q.0, joins.some.grew.later), q.1, q.2) });
+    }
+
+    -- what is gathered was printed, and an open transaction given up
+    pub left_stopped : mid.session ≡ old.line.session → PrintsSome mid.output.held mid.output.host new.line.output.host → LeavesBetween mid.output.host.disk new.line.output.host.disk (OpensCommitted kind mid.session)
+        → LeavesNext kind p e MayBe old new
+    left_stopped same some rest_left = left_then (λ c n left.
+        let q = rest_left.each c n left in (
+          q.0,
+          q.1,
+          left_here kind p e rest MayBe old.line.output c n leads (subst (λ (s : DbState). kind.opens c s.committed) (same ∙ sym at.session) q.2)
+              (omega (arith, q.1, most, some.grew.most, ap length some.whole, length-append some.printed some.unprinted)),
+        ))
+
 -- ---- the next line
 
 module _ (kind : DbKind) (p : Progress) (old new : ScriptMoment) (mid : LineMoment) (number word : ℕ) (command : Command) (left now : List ℕ)
@@ -254,8 +347,52 @@ module _ (kind : DbKind) (p : Progress) (old new : ScriptMoment) (mid : LineMome
   replied : reply_of mid.session command ≡ reply_of p.session command
   replied = ap (λ (s : DbState). reply_of s command) session
 
-  next_done : LineDone kind (asked number word command) mid new.line → NextDone kind p (ending_of kind p (lines_of (to_come old.reads.script left))) old new
-  next_done done = record {
+  abbrev to_end : Ending
+  to_end = ending_of kind p (lines_of (to_come old.reads.script left))
+
+  abbrev next : Progress
+  next = after_line kind p hands.line command
+
+  session_next : session_after kind word mid.session command ≡ next.session
+  session_next = ap (λ (s : DbState). session_after kind word s command) session ∙ same_session kind word (word_of p) p.session command word_drawn
+
+  module _ (way : LeavesBetween old.line.output.host.disk mid.output.host.disk (OpensCommitted kind old.line.session)) (om : GoesOn old.line.output.host.disk mid.output.host.disk)
+      (mn : GoesOn mid.output.host.disk new.line.output.host.disk) where
+    left_after : (MayBe : Progress → Type 0) (c : Image) (n : ℕ) → MayBe next → IsFromAfter kind (asked number word command) mid c n → IsLeft kind p to_end MayBe old.line.output c n
+    left_after MayBe c n may is = record {
+      reached = next;
+      rest = rest;
+      leads = leads_on is.stated;
+      which = inr may;
+      stands = λ start so. stands_line kind start p hands.line so command;
+      opens = subst (λ (s : DbState). kind.opens c s.committed) session_next is.opens;
+      reply = reply_of p.session command;
+      replies = replies_more p.replies _;
+      within = omega (
+        arith,
+        is.within,
+        joins_most [] old.line.output mid.output joins,
+        length-append old.line.output.held [],
+        length-append mid.output.held (reply_of mid.session command),
+        length-append old.line.output.held (reply_of p.session command),
+        ap length replied,
+      );
+    }
+
+    leaves_next : (MayBe : Progress → Type 0) (result : Option Note) → (MayBeDone result → MayBe next) → LeavesLine kind (asked number word command) mid new.line result → LeavesNext kind p to_end MayBe old new
+    leaves_next MayBe result may leaves = left_then kind p to_end (lines_of script) MayBe old new mid refl at joins way om mn leaves.later (λ c n left.
+        let q = leaves.each.each c n left in (
+          q.0,
+          q.1,
+          ⊎_elim
+              (λ was. left_here kind p to_end (lines_of script) MayBe old.line.output c n refl (subst (λ (s : DbState). kind.opens c s.committed) session was.0)
+              (omega (arith, was.1, joins_most [] old.line.output mid.output joins, length-append old.line.output.held [])))
+              (λ both. left_after MayBe c n (may both.0) both.1) q.2,
+        ))
+
+  next_done : LineDone kind (asked number word command) mid new.line → LeavesNext kind p (ending_of kind p (lines_of (to_come old.reads.script left))) (λ q. q ≡ next) old new
+      → NextDone kind p (ending_of kind p (lines_of (to_come old.reads.script left))) old new
+  next_done done leaves = record {
     left = now;
     shown = shown;
     next = after_line kind p hands.line command;
@@ -263,17 +400,21 @@ module _ (kind : DbKind) (p : Progress) (old new : ScriptMoment) (mid : LineMome
     at = record {
       lines = ap (λ (n : ℕ). n + 1) at.lines ∙ sym hands.lines;
       size = ap (λ (n : ℕ). n + length hands.line) at.size ∙ sym hands.size;
-      session = sym (done.session ∙ ap (λ (s : DbState). session_after kind word s command) session ∙ same_session kind word (word_of p) p.session command word_drawn);
+      session = sym (done.session ∙ session_next);
       words = ap (words_behind command) at.words ∙ sym words;
     };
     reply = reply_of p.session command;
     replies = replies_more p.replies _;
     words = λ start drawn. words_on command p.drawn p.words start drawn;
     output = joins_then old.line.output mid.output new.line.output _ joins (subst (λ (l : List ℕ). JoinsOutput l mid.output new.line.output) replied done.replies);
+    stands = λ start so. stands_line kind start p hands.line so command;
+    more = more_by kind p hands.line command;
+    moments = leaves;
   }
 
-  next_ends : (note : Note) → EndsAtLine kind (asked number word command) mid new.line note → NextEnds kind p (ending_of kind p (lines_of (to_come old.reads.script left))) old new note
-  next_ends note end = ⊎_elim
+  next_ends : (note : Note) → EndsAtLine kind (asked number word command) mid new.line note → LeavesNext kind p (ending_of kind p (lines_of (to_come old.reads.script left))) (λ _. IsFault note) old new
+      → NextEnds kind p (ending_of kind p (lines_of (to_come old.reads.script left))) old new note
+  next_ends note end leaves = ⊎_elim
       (λ some. record {
         reached = p;
         rest = lines_of script;
@@ -282,6 +423,7 @@ module _ (kind : DbKind) (p : Progress) (old new : ScriptMoment) (mid : LineMome
         replies = sym (append-nil (joined p.replies));
         prints = some_then old.line.output mid.output new.line.output.host [] joins (subst (λ (l : List ℕ). PrintsSome l mid.output.host new.line.output.host) (sym (append-nil mid.output.held)) some);
         stated = stated (failed_or_not note);
+        moments = leaves;
       })
       (λ both. record {
         reached = after_line kind p hands.line command;
@@ -292,6 +434,7 @@ module _ (kind : DbKind) (p : Progress) (old new : ScriptMoment) (mid : LineMome
         prints = some_then old.line.output mid.output new.line.output.host (reply_of p.session command) joins
             (subst (λ (l : List ℕ). PrintsSome (mid.output.held ++ l) mid.output.host new.line.output.host) replied both.1);
         stated = stated (failed_or_not note);
+        moments = leaves;
       })
       end.prints
     where
@@ -304,9 +447,11 @@ module _ (kind : DbKind) (p : Progress) (old new : ScriptMoment) (mid : LineMome
       stated (inl failed) = inl (inl failed)
       stated (inr sound) = ⊎_elim inl (λ some. inr (met sound some)) end.stated
 
-  pub goes_next : (result : Option Note) → DoesOrEnds kind (asked number word command) mid new.line result → DoesNext kind p (ending_of kind p (lines_of (to_come old.reads.script left))) old new result
-  goes_next None does = next_done does
-  goes_next (Some note) does = next_ends note does
+  pub goes_next : LeavesBetween old.line.output.host.disk mid.output.host.disk (OpensCommitted kind old.line.session) → GoesOn old.line.output.host.disk mid.output.host.disk
+      → GoesOn mid.output.host.disk new.line.output.host.disk → (result : Option Note) → DoesOrEnds kind (asked number word command) mid new.line result → LeavesLine kind (asked number word command) mid new.line result
+      → DoesNext kind p (ending_of kind p (lines_of (to_come old.reads.script left))) old new result
+  goes_next way om mn None does leaves = next_done does (leaves_next way om mn (λ q. q ≡ next) None (λ _. refl) leaves)
+  goes_next way om mn (Some note) does leaves = next_ends note does (leaves_next way om mn (λ _. IsFault note) (Some note) (λ failed. failed) leaves)
 
 -- the line that was found is the one that was handed out
 pub found_handed : {T : Type 0} (said : T → Command) (s t : ScriptState) (script rest : List ℕ) (in_one : Bool) (lines : ℕ) (found : T) (command : Command) (answer : Result (Option T) ScriptFault)
@@ -343,8 +488,9 @@ pub ends_next : {T : Type 0} (said : T → Command) (kind : DbKind) (p : Progres
     → IsAt p old → JoinsOutput [] old.line.output mid.output → mid.session ≡ old.line.session → new.reads.words ≡ old.reads.words → in_one ≡ old.line.session.in_transaction
     → AnswersLine said old.reads.script t (to_come old.reads.script left) (to_come t now) answer → Err note ≡ found_or_note in_one old.reads.script.lines answer
     → ((IsFault result → ⊥) → result ≡ note) → PrintsSome mid.output.held mid.output.host new.line.output.host → ((IsFault result → ⊥) → EndsWhole mid new.line)
+    → LeavesNext kind p (ending_of kind p (lines_of (to_come old.reads.script left))) (λ _. IsFault result) old new
     → NextEnds kind p (ending_of kind p (lines_of (to_come old.reads.script left))) old new result
-ends_next said kind p old new mid t left now in_one note result answer at joins same still one answers says kept some whole = record {
+ends_next said kind p old new mid t left now in_one note result answer at joins same still one answers says kept some whole leaves = record {
   reached = p;
   rest = lines_of (to_come old.reads.script left);
   leads = refl;
@@ -352,6 +498,7 @@ ends_next said kind p old new mid t left now in_one note result answer at joins 
   replies = sym (append-nil (joined p.replies));
   prints = some_then old.line.output mid.output new.line.output.host [] joins (subst (λ (l : List ℕ). PrintsSome l mid.output.host new.line.output.host) (sym (append-nil mid.output.held)) some);
   stated = stated (failed_or_not result);
+  moments = leaves;
 }
   where
     met : (IsFault result → ⊥) → StatedHere p (ending_of kind p (lines_of (to_come old.reads.script left))) 0 note → IsCutOff result ⊎ EndsStated p (ending_of kind p (lines_of (to_come old.reads.script left))) old new result

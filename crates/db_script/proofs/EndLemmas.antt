@@ -1,64 +1,27 @@
 -- A whole script comes to its stated end.
-use Rattle.std.proofs.Common.{◌≡◌, ◌∙◌, ◌⊎◌, inl, inr, ⊎_elim, ℕ, ◌+◌, Bool, true, false, List, [], ◌∷◌, ◌++◌, Option, Some, None, Err, length, refl, sym, ap, subst, append_assoc}
+use Rattle.std.proofs.Common.{◌≡◌, ◌∙◌, ◌⊎◌, inl, inr, ⊎_elim, ℕ, ◌+◌, ◌-◌, ◌≤◌, false, List, [], ◌++◌, Option, Some, length, refl, sym, ap, subst, append_assoc, arith, length-append}
 use Rattle.std.proofs.lemmas.List.{append-nil}
-use Rattle.std.specs.Prelude.{if◌then◌else◌, nat_lt}
-use Rattle.base_bytes.specs.declared.limits.TheConstants.{SCRIPT_LIMIT}
+use Rattle.base_devices.specs.CrashImages.{Image, GoesOn, IsMoment}
+use Rattle.base_devices.proofs.Moments.{each_then}
 use Rattle.base_devices.specs.HostCalls.{HostMoment, told_with}
-use Rattle.base_notes.specs.declared.note.LimitName.TheVariants.{Script}
 use Rattle.base_notes.specs.declared.note.Note.{Note}
-use Rattle.base_notes.specs.declared.note.Note.TheVariants.{BadLine, Limit}
 use Rattle.db_core.specs.Sessions.{DbKind, DbState, aborted}
-use Rattle.db_core.specs.declared.fault.DbFault.{DbFault}
 use Rattle.db_tool.specs.Doing.{IsStated}
 use Rattle.db_tool.specs.Printing.{Printed, PrintsSome, PrintMoment}
-use Rattle.db_tool.specs.Tasks.{words_after}
-use Rattle.db_tool.specs.ToolNotes.{IsCutOff}
+use Rattle.db_tool.specs.Tasks.{KeepsPrefix, words_after}
+use Rattle.db_tool.specs.ToolNotes.{IsFault, IsCutOff}
 use Rattle.db_tool.proofs.PrintLemmas.{printed_then, printed_none}
 use Rattle.rand_core.specs.Stream.{Stream}
-use Rattle.db_script.specs.Course.{ScriptMoment, script_over, to_read, NextDone, NextEnds, EndsStated, Leads, EndsAsStated, DrawsStated}
-use Rattle.db_script.specs.Fields.{before}
-use Rattle.db_script.specs.Lines.{Command, lines_of, read_line}
+use Rattle.db_script.specs.Course.{ScriptMoment, script_over, to_read, IsLeft, NextDone, NextEnds, EndsStated, Leads, EndsAsStated, LeavesPrefixes, DrawsStated}
+use Rattle.db_script.specs.Lines.{lines_of}
+use Rattle.db_script.specs.Moments.{KeepsFew}
 use Rattle.db_script.specs.Reading.{ScriptState, to_come}
-use Rattle.db_script.specs.Replies.{is_placed, change_of, owed_by, reply_of}
-use Rattle.db_script.specs.Scripts.{Progress, Ending, ends, unless_owed, do_command, do_line, goes_on, after_line, ending_of, joined, word_of, nothing_done, script_task}
-use Rattle.db_script.specs.Steps.{gathered, JoinsOutput}
-use Rattle.db_script.proofs.CourseLemmas.{replies_more}
-
--- ---- the output of an end has all replies before it
-
-record Grows (p : Progress) (e : Ending) : Type 0 where
-  pub more : List ℕ
-  pub is : joined e.done.replies ≡ joined p.replies ++ more
-
-grows_line : (kind : DbKind) (p : Progress) (line : List ℕ) (lines : List (List ℕ)) → ((q : Progress) → Grows q (ending_of kind q lines)) → Grows p (goes_on (λ q. ending_of kind q lines) (do_line kind p line))
-grows_line kind p line lines later = by_size (nat_lt SCRIPT_LIMIT (p.size + length line))
-  where
-    here : (e : Ending) → e.done ≡ p → Grows p e
-    here e same = record { more = []; is = ap (λ (q : Progress). joined q.replies) same ∙ sym (append-nil (joined p.replies)) }
-
-    by_place : (command : Command) (b : Bool) (o : Option DbFault)
-        → Grows p (goes_on (λ q. ending_of kind q lines) (if b then unless_owed o p command (after_line kind p line command) else Err (ends p (BadLine (p.lines + 1)))))
-    by_place command true None =
-        let on = later (after_line kind p line command) in
-        record {
-          more = reply_of p.session command ++ on.more;
-          is = on.is ∙ ap (λ (l : List ℕ). l ++ on.more) (replies_more p.replies _) ∙ append_assoc (joined p.replies) (reply_of p.session command) on.more;
-        }
-    by_place command true (Some fault) = here _ refl
-    by_place command false o = here _ refl
-
-    by_command : (o : Option Command) → Grows p (goes_on (λ q. ending_of kind q lines) (do_command kind p line o))
-    by_command None = here _ refl
-    by_command (Some command) = by_place command (is_placed p.session.in_transaction command) (owed_by kind p.session (change_of (word_of p) command))
-
-    by_size : (b : Bool) → Grows p (goes_on (λ q. ending_of kind q lines) (if b then Err (ends p (Limit Script (SCRIPT_LIMIT + 1))) else do_command kind p line (read_line (before 10 line))))
-    by_size true = here _ refl
-    by_size false = by_command (read_line (before 10 line))
-
-grows : (kind : DbKind) (p : Progress) (lines : List (List ℕ)) → Grows p (ending_of kind p lines)
-unfolding ending_of
-grows kind p [] = record { more = []; is = sym (append-nil (joined p.replies)) }
-grows kind p (line ∷ lines) = grows_line kind p line lines (λ q. grows kind q lines)
+use Rattle.db_script.specs.Scripts.{Progress, Ending, ending_of, joined, nothing_done, script_task, task_of_ending}
+use Rattle.db_script.specs.Steps.{LineMoment, JoinsOutput}
+use Rattle.db_script.proofs.CourseLemmas.{joins_most}
+use Rattle.db_script.proofs.AcknowledgeLemmas.{joined_parts}
+use Rattle.db_script.proofs.StandLemmas.{stands_start}
+use Rattle.db_script.proofs.WayLemmas.{Grows, grows, keeps_few}
 
 -- ---- output
 
@@ -95,64 +58,146 @@ all_more m n o x none first second =
 
 -- ---- the course
 
-pub leads_start : (kind : DbKind) (s : DbState) (words : Stream) (left : List ℕ) (shown : Option (List ℕ)) (script : ScriptState) (start : PrintMoment)
-    → script ≡ record { held = []; lines = 0; size = 0; is_over = false } → shown ≡ Some left
-    → Leads kind (ending_of kind (nothing_done s words) (lines_of left)) words start (script_over (to_read script shown words) (gathered s start))
+-- an image that is left opens to what was committed on the way, and no more is printed than its replies
+pub keeps_left : (kind : DbKind) (e : Ending) (words : Stream) (start : LineMoment) (m : ScriptMoment) (so : Leads kind e words start m) (MayBe : Progress → Type 0) (most : ℕ) (c : Image) (n : ℕ) → start.output.held ≡ []
+    → length so.done.transactions ≤ most → ((q : Progress) → MayBe q → length q.transactions ≤ most)
+    → IsLeft kind so.done (ending_of kind so.done (lines_of (to_come m.reads.script so.left))) MayBe m.line.output c n
+    → KeepsFew kind (task_of_ending e) start.session most (n - start.output.host.disk.mark) c
+keeps_left kind e words start m so MayBe most c n none here there left =
+    keeps_few kind start.session e left.reached left.rest most (n - start.output.host.disk.mark) c (left.leads ∙ so.leads) (left.stands start.session so.stands) left.opens printed
+    (⊎_elim (λ (is : left.reached ≡ so.done). omega (arith, ap (λ (q : Progress). length q.transactions) is, here)) (there left.reached) left.which)
+  where
+    printed : n - start.output.host.disk.mark ≤ length (joined left.reached.replies)
+    printed = omega (
+      arith,
+      left.within,
+      length-append m.line.output.held left.reply,
+      ap length left.replies,
+      length-append (joined so.done.replies) left.reply,
+      joins_most (joined so.done.replies) start.output m.line.output so.output,
+      length-append start.output.held (joined so.done.replies),
+      ap length none,
+    )
+
+pub leads_start : (kind : DbKind) (words : Stream) (left : List ℕ) (shown : Option (List ℕ)) (script : ScriptState) (start : LineMoment)
+    → script ≡ record { held = []; lines = 0; size = 0; is_over = false } → shown ≡ Some left → start.session.seen ≡ start.session.committed → IsMoment start.output.host.disk
+    → ((c : Image) → start.output.host.disk.leaves c → kind.opens c start.session.committed)
+    → Leads kind (ending_of kind (nothing_done start.session words) (lines_of left)) words start (script_over (to_read script shown words) start)
 unfolding joined
-leads_start kind s words left shown script start new is = record {
+leads_start kind words left shown script start new is same moment opens = record {
   left = left;
   shown = is;
-  done = nothing_done s words;
-  leads = ap (λ (t : ScriptState). ending_of kind (nothing_done s words) (lines_of (to_come t left))) new;
+  done = nothing_done start.session words;
+  leads = ap (λ (t : ScriptState). ending_of kind (nothing_done start.session words) (lines_of (to_come t left))) new;
   at = record { lines = sym (ap (λ (t : ScriptState). t.lines) new); size = sym (ap (λ (t : ScriptState). t.size) new); session = refl; words = refl };
   drawn = refl;
   output = record {
-    some = record { printed = []; unprinted = start.held; whole = sym (append-nil start.held); grew = printed_none start.host };
+    some = record { printed = []; unprinted = start.output.held; whole = sym (append-nil start.output.held); grew = printed_none start.output.host };
     rest = refl;
+  };
+  stands = stands_start start.session words same;
+  later = omega arith;
+  moments = record {
+    each = λ c n left_now.
+        let now = moment.now c n left_now in (
+          omega (arith, now.1),
+          omega (arith, now.1),
+          keeps_few kind start.session _ (nothing_done start.session words) (lines_of left) 0 (n - start.output.host.disk.mark) c refl (stands_start start.session words same) (opens c now.0)
+              (omega (arith, now.1)) (omega arith),
+        );
   };
 }
 
-pub leads_more : (kind : DbKind) (e : Ending) (words : Stream) (start : PrintMoment) (m n : ScriptMoment) (so : Leads kind e words start m)
+pub leads_more : (kind : DbKind) (e : Ending) (words : Stream) (start : LineMoment) (m n : ScriptMoment) (so : Leads kind e words start m) → start.output.held ≡ []
+    → GoesOn start.output.host.disk m.line.output.host.disk → GoesOn m.line.output.host.disk n.line.output.host.disk
     → NextDone kind so.done (ending_of kind so.done (lines_of (to_come m.reads.script so.left))) m n → Leads kind e words start n
-leads_more kind e words start m n so more = record {
+leads_more kind e words start m n so none sm mn more = record {
   left = more.left;
   shown = more.shown;
   done = more.next;
   leads = more.leads ∙ so.leads;
   at = more.at;
   drawn = more.words words so.drawn;
-  output = subst (λ (l : List ℕ). JoinsOutput l start n.line.output) (sym more.replies) (joins_more start m.line.output n.line.output (joined so.done.replies) more.reply so.output more.output);
+  output = subst (λ (l : List ℕ). JoinsOutput l start.output n.line.output) (sym more.replies)
+      (joins_more start.output m.line.output n.line.output (joined so.done.replies) more.reply so.output more.output);
+  stands = more.stands start.session so.stands;
+  later = omega (arith, so.later, more.moments.later);
+  moments = each_then start.output.host.disk m.line.output.host.disk n.line.output.host.disk _ sm mn
+      (record {
+        each = λ c k left.
+            let q = so.moments.each c k left in
+            (q.0, omega (arith, q.1, more.moments.later), record { prefix = q.2.prefix; few = omega (arith, q.2.few, more.more) });
+      })
+      (record {
+        each = λ c k left.
+            let q = more.moments.each.each c k left in (
+              omega (arith, q.0, so.later),
+              q.1,
+              keeps_left kind e words start m so (λ q. q ≡ more.next) (length more.next.transactions) c k none more.more (λ q is. omega (arith, ap (λ (p : Progress). length p.transactions) is)) q.2,
+            );
+      });
 }
 
-pub leads_to_end : (kind : DbKind) (s : DbState) (words : Stream) (script : List ℕ) (start : PrintMoment) (m n : ScriptMoment) (note : Note) (so : Leads kind (ending_of kind (nothing_done s words) (lines_of script)) words start m)
-    → start.held ≡ [] → NextEnds kind so.done (ending_of kind so.done (lines_of (to_come m.reads.script so.left))) m n note
-    → EndsAsStated (script_task kind s words script) (record { session = s; host = start.host }) (record { session = n.line.session; host = n.line.output.host }) note
-leads_to_end kind s words script start m n note so none end = record {
+-- at each moment of the script
+pub leaves_to_end : (kind : DbKind) (e : Ending) (words : Stream) (start : LineMoment) (m n : ScriptMoment) (note : Note) (so : Leads kind e words start m) → start.output.held ≡ []
+    → GoesOn start.output.host.disk m.line.output.host.disk → GoesOn m.line.output.host.disk n.line.output.host.disk
+    → NextEnds kind so.done (ending_of kind so.done (lines_of (to_come m.reads.script so.left))) m n note
+    → LeavesPrefixes kind (task_of_ending e) (record { session = start.session; host = start.output.host }) (record { session = n.line.session; host = n.line.output.host })
+leaves_to_end kind e words start m n note so none sm mn end = each_then start.output.host.disk m.line.output.host.disk n.line.output.host.disk _ sm mn
+    (record { each = λ c k left. let q = so.moments.each c k left in (q.0, omega (arith, q.1, end.moments.later), q.2.prefix) })
+    (record {
+      each = λ c k left.
+          let q = end.moments.each.each c k left in
+          (omega (arith, q.0, so.later), q.1, any q.2);
+    })
+  where
+    any : {c : Image} {k : ℕ} → IsLeft kind so.done (ending_of kind so.done (lines_of (to_come m.reads.script so.left))) (λ _. IsFault note) m.line.output c k
+        → KeepsPrefix kind (task_of_ending e) start.session.committed (k - start.output.host.disk.mark) c
+    any {c} {k} left = (keeps_left kind e words start m so (λ q. q ≡ left.reached) (length so.done.transactions + length left.reached.transactions) c k none (omega arith)
+        (λ q is. omega (arith, ap (λ (p : Progress). length p.transactions) is))
+        (record { reached = left.reached; rest = left.rest; leads = left.leads; which = inr refl; stands = left.stands; opens = left.opens; reply = left.reply; replies = left.replies; within = left.within })).prefix
+
+pub leads_to_end : (kind : DbKind) (words : Stream) (script : List ℕ) (start : LineMoment) (m n : ScriptMoment) (note : Note) (so : Leads kind (ending_of kind (nothing_done start.session words) (lines_of script)) words start m)
+    → start.output.held ≡ [] → NextEnds kind so.done (ending_of kind so.done (lines_of (to_come m.reads.script so.left))) m n note
+    → EndsAsStated (script_task kind start.session words script) (record { session = start.session; host = start.output.host }) (record { session = n.line.session; host = n.line.output.host }) note
+leads_to_end kind words script start m n note so none end = record {
   stated = ⊎_elim inl met end.stated;
-  prints = some_more start m.line.output n.line.output.host (joined so.done.replies) end.reply on.more _ none so.output end.prints
-      (ap (λ (f : Ending). joined f.done.replies) (sym (end.leads ∙ so.leads)) ∙ on.is ∙ ap (λ (l : List ℕ). l ++ on.more) end.replies);
+  prints = some_more start.output m.line.output n.line.output.host (joined so.done.replies) end.reply (joined on.more) _ none so.output end.prints
+      (ap (λ (f : Ending). joined f.done.replies) (sym (end.leads ∙ so.leads)) ∙ ap joined on.replies ∙ joined_parts end.reached.replies on.more ∙ ap (λ (l : List ℕ). l ++ joined on.more) end.replies);
 }
   where
     on : Grows end.reached (ending_of kind end.reached end.rest)
     on = grows kind end.reached end.rest
 
     met : EndsStated so.done (ending_of kind so.done (lines_of (to_come m.reads.script so.left))) m n note
-        → IsCutOff note ⊎ IsStated (script_task kind s words script) (record { session = s; host = start.host }) (record { session = n.line.session; host = n.line.output.host }) note
+        → IsCutOff note ⊎ IsStated (script_task kind start.session words script) (record { session = start.session; host = start.output.host }) (record { session = n.line.session; host = n.line.output.host }) note
     met is =
-        let done : (ending_of kind (nothing_done s words) (lines_of script)).done ≡ so.done = ap (λ (f : Ending). f.done) (sym so.leads) ∙ is.done in
+        let done : (ending_of kind (nothing_done start.session words) (lines_of script)).done ≡ so.done = ap (λ (f : Ending). f.done) (sym so.leads) ∙ is.done in
         inr (record {
           ends = is.ends ∙ ap (λ (f : Ending). f.note) so.leads;
-          told = (all_more start m.line.output n.line.output.host (joined so.done.replies) none so.output is.whole.printed).told
-              ∙ ap (λ (p : Progress). told_with start.host.streams.told (joined p.replies)) (sym done);
+          told = (all_more start.output m.line.output n.line.output.host (joined so.done.replies) none so.output is.whole.printed).told
+              ∙ ap (λ (p : Progress). told_with start.output.host.streams.told (joined p.replies)) (sym done);
           session = is.whole.session ∙ ap (λ (t : DbState). aborted t) (sym so.at.session) ∙ ap (λ (p : Progress). aborted p.session) (sym done);
         })
 
-pub words_to_end : (kind : DbKind) (s : DbState) (words : Stream) (script : List ℕ) (start : PrintMoment) (m n : ScriptMoment) (note : Note) (so : Leads kind (ending_of kind (nothing_done s words) (lines_of script)) words start m)
-    → NextEnds kind so.done (ending_of kind so.done (lines_of (to_come m.reads.script so.left))) m n note → DrawsStated (script_task kind s words script) words n.reads.words note
-words_to_end kind s words script start m n note so end =
+pub words_to_end : (kind : DbKind) (words : Stream) (script : List ℕ) (start : LineMoment) (m n : ScriptMoment) (note : Note) (so : Leads kind (ending_of kind (nothing_done start.session words) (lines_of script)) words start m)
+    → NextEnds kind so.done (ending_of kind so.done (lines_of (to_come m.reads.script so.left))) m n note → DrawsStated (script_task kind start.session words script) words n.reads.words note
+words_to_end kind words script start m n note so end =
     ⊎_elim inl (λ is. inr (is.words words so.drawn ∙ ap (λ (f : Ending). words_after f.drawn words) so.leads)) end.stated
 
 -- nothing was done, as memory ran out
 pub nothing_stated : (kind : DbKind) (s : DbState) (words : Stream) (script : List ℕ) (h : HostMoment) (note : Note) → IsCutOff note
     → EndsAsStated (script_task kind s words script) (record { session = s; host = h }) (record { session = s; host = h }) note
 nothing_stated kind s words script h note cut = record { stated = inl cut; prints = record { printed = []; unprinted = _; whole = refl; grew = printed_none h } }
+
+pub nothing_leaves : (kind : DbKind) (s : DbState) (words : Stream) (script : List ℕ) (h : HostMoment) → s.seen ≡ s.committed → IsMoment h.disk
+    → ((c : Image) → h.disk.leaves c → kind.opens c s.committed) → LeavesPrefixes kind (script_task kind s words script) (record { session = s; host = h }) (record { session = s; host = h })
+unfolding joined
+nothing_leaves kind s words script h same moment opens = record {
+  each = λ c n left_now.
+      let now = moment.now c n left_now in (
+        omega (arith, now.1),
+        omega (arith, now.1),
+        (keeps_few kind s _ (nothing_done s words) (lines_of script) 0 (n - h.disk.mark) c refl (stands_start s words same) (opens c now.0) (omega (arith, now.1)) (omega arith)).prefix,
+      );
+}

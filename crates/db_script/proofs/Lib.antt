@@ -6,6 +6,10 @@ pub mod LineLemmas
 pub mod AnswerLemmas
 pub mod ReplyLemmas
 pub mod RefusalLemmas
+pub mod AcknowledgeLemmas
+pub mod StandLemmas
+pub mod WayLemmas
+pub mod MomentLemmas
 pub mod StepLemmas
 pub mod CourseLemmas
 pub mod EndLemmas

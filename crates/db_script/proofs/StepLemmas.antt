@@ -1,19 +1,25 @@
 -- A line as one step of its script.
-use Rattle.std.proofs.Common.{◌≡◌, ◌∙◌, ◌⊎◌, inl, inr, ⊎_elim, ℕ, Bool, true, List, [], ◌++◌, Some, None, Ok, Err, refl, sym, ap, subst}
+use Rattle.std.proofs.Common.{◌≡◌, ◌∙◌, ◌⊎◌, inl, inr, ⊎_elim, ℕ, Bool, true, false, List, [], ◌++◌, Option, Some, None, Result, Ok, Err, refl, sym, ap, subst}
 use Rattle.std.specs.Option.{option_map}
 use Rattle.std.specs.Prelude.{if◌then◌else◌}
+use Rattle.base_bytes.specs.declared.change.Change.TheVariants.{Put, Del}
+use Rattle.base_devices.specs.CrashImages.{Image, GoesOn}
 use Rattle.base_devices.specs.HostCalls.{HostMoment}
 use Rattle.base_notes.specs.declared.note.Device.TheVariants.{Host}
 use Rattle.base_notes.specs.declared.note.Note.{Note}
 use Rattle.base_notes.specs.declared.note.Note.TheVariants.{Done, Answer, Usage, BadLine, Absent, Limit, Exists, DeviceFault, Memory, Damaged}
+use Rattle.db_core.specs.Calls.{OnDisk}
 use Rattle.db_core.specs.Refusals.{IsAfterRefusal}
-use Rattle.db_core.specs.Sessions.{DbKind, DbState, aborted}
+use Rattle.db_core.specs.Sessions.{DbKind, DbState, over, begun, change_after, committed, aborted}
 use Rattle.db_core.specs.WholeTransactions.{MayEnd}
 use Rattle.db_core.specs.declared.fault.DbFault.{DbFault}
 use Rattle.db_core.specs.declared.fault.DbFault.TheVariants.{Broken, KeyEmpty, KeyTooLong, ValueTooLong, Full, NoMemory, DiskFault}
 use Rattle.db_tool.specs.Printing.{Printed, PrintsSome, Prints}
 use Rattle.db_tool.specs.ToolNotes.{IsFault, IsCutOff, change_note}
 use Rattle.db_tool.proofs.PrintLemmas.{printed_then, some_none}
+use Rattle.db_script.specs.Doing.{DoesLine, OpensWith}
+use Rattle.db_script.specs.Moments.{MayBeDone, LeavesLine}
+use Rattle.db_script.proofs.MomentLemmas.{line_given_up, line_replied}
 use Rattle.db_script.specs.Lines.{Command, begin, commit, abort, show, get, set, delete}
 use Rattle.db_script.specs.Replies.{is_placed, change_of, owed_by, reply_in, reply_of, session_after}
 use Rattle.db_script.specs.Steps.{Asked, LineMoment, line_note, LineDone, LineEnds, EndsWhole, EndsAtLine}
@@ -27,6 +33,24 @@ same_reply kind word s (show prefix) = refl
 same_reply kind word s (get key) = refl
 same_reply kind word s (set key value) = refl
 same_reply kind word s (delete key) = refl
+
+-- a line that is done leaves a session whole
+pub still_sound : (kind : DbKind) (word : ℕ) (s : DbState) (command : Command) → (session_after kind word s command).is_broken ≡ s.is_broken
+still_sound kind word s begin = refl
+still_sound kind word s commit = refl
+still_sound kind word s abort = refl
+still_sound kind word s (show prefix) = refl
+still_sound kind word s (get key) = refl
+still_sound kind word s (set key value) = by s.in_transaction
+  where
+    by : (b : Bool) → (if b then change_after kind s (Put word key value) else committed kind (change_after kind (begun s) (Put word key value))).is_broken ≡ s.is_broken
+    by true = refl
+    by false = refl
+still_sound kind word s (delete key) = by s.in_transaction
+  where
+    by : (b : Bool) → (if b then change_after kind s (Del key) else committed kind (change_after kind (begun s) (Del key))).is_broken ≡ s.is_broken
+    by true = refl
+    by false = refl
 
 -- what is printed behind a call that prints nothing
 pub some_behind : (m n o : HostMoment) (output all : List ℕ) → output ≡ all → Printed [] m n → PrintsSome output n o → PrintsSome all m o
@@ -98,6 +122,17 @@ module _ (kind : DbKind) (a : Asked) (old mid new : LineMoment) (in_one : Bool) 
     silent = λ whole. absurd (whole cut);
     kept = λ whole. absurd (whole cut);
   }
+
+  pub line_leaves : {T E : Type 0} (result : Option Note) (r : Result T E) → MayBeDone result → old.session.is_broken ≡ false
+      → OnDisk old.session (OpensWith kind old.session (session_after kind a.word old.session a.command)) old.output.host.disk mid.output.host.disk
+      → GoesOn old.output.host.disk mid.output.host.disk → GoesOn mid.output.host.disk new.output.host.disk
+      → ((c : Image) → mid.output.host.disk.leaves c → kind.opens c mid.session.committed) → Prints reply mid.output new.output r → LeavesLine kind a old new result
+  line_leaves result r may sound disk om mn opens prints = line_replied kind a old mid new reply result r may sound is_done after joined nothing disk om mn opens prints
+
+pub line_refused_leaves : (kind : DbKind) (a : Asked) (old new : LineMoment) (fault : DbFault) → is_placed old.session.in_transaction a.command ≡ true → old.session.is_broken ≡ false
+    → DoesLine {T = Unit {0}} kind a.word a.command (over old.output.host.disk old.session) (over new.output.host.disk new.session) (Err fault) → LeavesLine kind a old new (Some (change_note Host fault))
+line_refused_leaves kind a old new fault placed sound does =
+    line_given_up kind a old new fault sound (λ owed. placed_note kind old.session a placed ∙ ap (option_map (change_note Host)) owed) does
 
 -- ---- the end
 

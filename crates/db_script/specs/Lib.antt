@@ -8,4 +8,5 @@ pub mod Scripts
 pub mod Doing
 pub mod Batch
 pub mod Steps
+pub mod Moments
 pub mod Course

@@ -3,6 +3,7 @@ ghost use Rattle.std.specs.Prelude.{◌≡◌, ◌⊎◌, ◌+◌, ℕ, List, So
 ghost use Rattle.base_notes.specs.Notes.{status_of};
 ghost use Rattle.base_notes.specs.declared.note.Device.TheVariants.{Host, Input};
 ghost use Rattle.base_notes.specs.declared.note.Note.TheVariants.{DeviceFault};
+ghost use Rattle.db_core.specs.Calls.{OpensCommitted};
 ghost use Rattle.db_core.specs.Sessions.{over};
 ghost use Rattle.db_script.specs.Batch.{GoesWell, NamesScriptDevice, end_note, found_or_note, note_of_answer, note_or_done, script_note};
 ghost use Rattle.db_script.specs.Held.{IsFound, found_in};
@@ -11,12 +12,14 @@ ghost use Rattle.db_script.specs.declared.buffer.Found.{Found};
 ghost use Rattle.db_script.specs.declared.script.ScriptFault.{ScriptFault};
 ghost use Rattle.db_script.specs.Lines.{command_of};
 ghost use Rattle.db_script.specs.Scripts.{script_task, words_behind};
+ghost use Rattle.base_devices.specs.Frames.{LeavesBetween};
 ghost use Rattle.base_devices.specs.HostCalls.{moment};
 ghost use Rattle.rand_core.specs.Stream.{next_u32};
 ghost use Rattle.db_script.specs.Replies.{change_of};
+ghost use Rattle.db_script.specs.Moments.{LeavesLine};
 ghost use Rattle.db_script.specs.Steps.{DoesOne, DoesOrEnds, EndsWhole, asked, gathered};
 ghost use Rattle.db_tool.specs.Printing.{Prints, PrintsSome, holding};
-ghost use Rattle.db_script.specs.Course.{DrawsStated, EndsAsStated, GoesOnFrom, script_over, to_read};
+ghost use Rattle.db_script.specs.Course.{DrawsStated, EndsAsStated, GoesOnFrom, LeavesPrefixes, script_over, to_read};
 ghost use Rattle.db_tool.specs.Doing.{during};
 ghost use Rattle.db_tool.specs.ToolNotes.{Faults, IsFault};
 
@@ -66,6 +69,10 @@ fn do_line<H: Host, B: Db<H>>(
         (gathered (B.state db.old) (holding output.old (H.state host.old) (H.streams host.old)))
         (gathered (B.state db.new) (holding output.new (H.state host.new) (H.streams host.new)))
         result }
+    ensures moments { LeavesLine B.kind (asked number word (command_of line.now))
+        (gathered (B.state db.old) (holding output.old (H.state host.old) (H.streams host.old)))
+        (gathered (B.state db.new) (holding output.new (H.state host.new) (H.streams host.new)))
+        result }
     ensures tied { B.tie db.new host.new }
     ensures rest { H.host_rest host.old host.new }
 {
@@ -98,6 +105,8 @@ fn finish<H: Host, B: Db<H>>(note: Note, db: &mut B, host: &mut H, output: &mut 
     ensures whole { (IsFault result → ⊥) → EndsWhole
         (gathered (B.state db.old) (holding output.old (H.state host.old) (H.streams host.old)))
         (gathered (B.state db.new) (holding output.new (H.state host.new) (H.streams host.new))) }
+    ensures moments { LeavesBetween (H.state host.old) (H.state host.new)
+        (OpensCommitted B.kind (B.state db.old)) }
     ensures tied { B.tie db.new host.new }
     ensures rest { H.host_rest host.old host.new }
 {
@@ -153,6 +162,8 @@ fn stop<H: Host, B: Db<H>>(note: Note, db: &mut B, host: &mut H, output: &mut Pi
     ensures whole { (IsFault result → ⊥) → EndsWhole
         (gathered (B.state db.old) (holding output.old (H.state host.old) (H.streams host.old)))
         (gathered (B.state db.new) (holding output.new (H.state host.new) (H.streams host.new))) }
+    ensures moments { (IsFault note → ⊥) → LeavesBetween (H.state host.old) (H.state host.new)
+        (OpensCommitted B.kind (B.state db.old)) }
     ensures tied { B.tie db.new host.new }
     ensures rest { H.host_rest host.old host.new }
 {
@@ -181,6 +192,10 @@ fn do_or_stop<H: Host, B: Db<H>>(
         → (B.state db.new).in_transaction ≡ false) }
     ensures empty { IfSome result (λ note. (IsFault note → ⊥) → output.new ≡ []) }
     ensures does { DoesOrEnds B.kind (asked number word (command_of line.now))
+        (gathered (B.state db.old) (holding output.old (H.state host.old) (H.streams host.old)))
+        (gathered (B.state db.new) (holding output.new (H.state host.new) (H.streams host.new)))
+        result }
+    ensures moments { LeavesLine B.kind (asked number word (command_of line.now))
         (gathered (B.state db.old) (holding output.old (H.state host.old) (H.streams host.old)))
         (gathered (B.state db.new) (holding output.new (H.state host.new) (H.streams host.new)))
         result }
@@ -286,6 +301,8 @@ fn do_lines<H: Host, B: Db<H>, I: Source, R: Rng>(
     rng: &mut R,
 ) -> Note
     requires sound { (B.state db.old).is_broken ≡ false }
+    requires empty { output.old ≡ [] }
+    requires closed { (B.state db.old).in_transaction ≡ false }
     requires tied { B.tie db.old host.old }
     ensures well { GoesWell B.kind (over (H.state host.old) (B.state db.old))
         (over (H.state host.new) (B.state db.new)) result }
@@ -293,10 +310,14 @@ fn do_lines<H: Host, B: Db<H>, I: Source, R: Rng>(
     ensures device { NamesScriptDevice result }
     ensures closed { (IsFault result → ⊥) → (B.state db.new).in_transaction ≡ false }
     ensures empty { (IsFault result → ⊥) → output.new ≡ [] }
-    ensures stated { (left : List ℕ) → (I.state input.old).left ≡ Some left → output.old ≡ []
+    ensures stated { (left : List ℕ) → (I.state input.old).left ≡ Some left
         → EndsAsStated (script_task B.kind (B.state db.old) (R.stream rng.old) left)
         (during (H.state host.old) (H.streams host.old) (B.state db.old))
         (during (H.state host.new) (H.streams host.new) (B.state db.new)) result }
+    ensures moments { (left : List ℕ) → (I.state input.old).left ≡ Some left
+        → LeavesPrefixes B.kind (script_task B.kind (B.state db.old) (R.stream rng.old) left)
+        (during (H.state host.old) (H.streams host.old) (B.state db.old))
+        (during (H.state host.new) (H.streams host.new) (B.state db.new)) }
     ensures words { (left : List ℕ) → (I.state input.old).left ≡ Some left
         → DrawsStated (script_task B.kind (B.state db.old) (R.stream rng.old) left)
         (R.stream rng.old) (R.stream rng.new) result }
@@ -346,6 +367,13 @@ pub fn batch<H: Host, B: Db<H>, I: Source, R: Rng>(
     ensures input { Faults Input result.note
         (I.state input.old).faults (I.state input.new).faults }
     ensures device { NamesScriptDevice result.note }
+
+    // Of a source that shows its bytes: at each moment, also within a write, a crash leaves the map after some first of
+    // the stated transactions, those whose reply was printed by then among them, none in part.
+    ensures moments { (left : List ℕ) → (I.state input.old).left ≡ Some left
+        → LeavesPrefixes B.kind (script_task B.kind (B.state db.old) (R.stream rng.old) left)
+        (during (H.state host.old) (H.streams host.old) (B.state db.old))
+        (during (H.state host.new) (H.streams host.new) (B.state db.new)) }
 
     // Of a source that shows its bytes: note, output and session are the stated ones, unless a device failed or memory
     // ran out, and at any end a prefix of the stated output was printed.

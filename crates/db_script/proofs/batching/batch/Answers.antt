@@ -1,6 +1,7 @@
-use Rattle.std.proofs.Common.{inl, inr}
+use Rattle.std.proofs.Common.{inl, inr, ap, sym}
+use Rattle.db_core.specs.Sessions.{DbState}
 use Rattle.base_devices.specs.HostCalls.{moment}
-use Rattle.db_script.proofs.EndLemmas.{nothing_stated}
+use Rattle.db_script.proofs.EndLemmas.{nothing_leaves, nothing_stated}
 use Rattle.db_script.proofs.batching.batch.Goals as goal
 
 pub returns-in-Err-clause-stated : goal.returns-in-Err-clause-stated
@@ -10,3 +11,8 @@ returns-in-Err-clause-stated g c left shown =
 
 pub returns-in-Err-clause-words : goal.returns-in-Err-clause-words
 returns-in-Err-clause-words g c left shown = inl (inr c.outcome_of-in-Err.ensures.note)
+
+pub returns-in-Err-clause-moments : goal.returns-in-Err-clause-moments
+returns-in-Err-clause-moments g c left shown =
+    nothing_leaves g.B.Db.kind (g.B.Db.state c.args.db.now) (g.R.Rng.stream c.args.rng.now) left (moment (g.H.Disk.state c.args.host.now) (g.H.Host.streams c.args.host.now))
+    (ap (λ (s : DbState). s.seen) (sym (g.met.B.Db.outside _ c.requires.sound c.requires.closed))) (g.met.H.Disk.is_moment _) (g.met.B.Db.tie_opens _ _ c.requires.sound c.requires.tied)

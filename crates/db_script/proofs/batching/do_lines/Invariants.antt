@@ -18,7 +18,8 @@ invariant-loop g l = record {
   sound : (g.B.Db.state l.db).is_broken ≡ false;
   tied : g.B.Db.tie l.db l.host;
   course : (left : List ℕ) → (g.I.Source.state l.initial.input).left ≡ Some left
-      → Leads g.B.Db.kind (ending_of g.B.Db.kind (nothing_done (g.B.Db.state l.initial.db) (g.R.Rng.stream l.initial.rng)) (lines_of left)) (g.R.Rng.stream l.initial.rng) (holding l.initial.output (g.H.Disk.state l.initial.host) (g.H.Host.streams l.initial.host))
+      → Leads g.B.Db.kind (ending_of g.B.Db.kind (nothing_done (g.B.Db.state l.initial.db) (g.R.Rng.stream l.initial.rng)) (lines_of left)) (g.R.Rng.stream l.initial.rng)
+      (gathered (g.B.Db.state l.initial.db) (holding l.initial.output (g.H.Disk.state l.initial.host) (g.H.Host.streams l.initial.host)))
       (script_over (to_read (script_state l.script) (g.I.Source.state l.input).left (g.R.Rng.stream l.rng)) (gathered (g.B.Db.state l.db) (holding l.output (g.H.Disk.state l.host) (g.H.Host.streams l.host))));
   rest : g.H.Host.host_rest l.initial.host l.host;
 }
