@@ -7,7 +7,7 @@ use Rattle.std.specs.Prelude.{if◌then◌else◌, nat_lt}
 use Rattle.base_bytes.specs.declared.change.Change.{Change}
 use Rattle.base_bytes.specs.declared.limits.TheConstants.{SCRIPT_LIMIT}
 use Rattle.base_devices.specs.CrashImages.{Image, GoesOn}
-use Rattle.base_devices.specs.Frames.{LeavesBetween}
+use Rattle.base_devices.specs.Frames.{KeepsCounts, LeavesBetween}
 use Rattle.base_devices.specs.HostCalls.{HostMoment}
 use Rattle.base_devices.proofs.Moments.{each_then}
 use Rattle.base_notes.specs.declared.note.Device.TheVariants.{Host}
@@ -24,18 +24,19 @@ use Rattle.db_tool.specs.ToolNotes.{IsFault, IsCutOff, change_note}
 use Rattle.db_tool.proofs.PrintLemmas.{printed_then}
 use Rattle.db_script.specs.Fields.{before}
 use Rattle.db_script.specs.Lines.{Command, begin, commit, abort, show, get, set, delete, lines_of, read_line}
-use Rattle.db_script.specs.Replies.{is_placed, change_of, owed_by, reply_of, session_after}
+use Rattle.db_script.specs.Replies.{is_placed, change_of, commits, owed_by, reply_of, session_after}
 use Rattle.db_script.specs.Scripts.{Reply, Progress, Ending, ends, unless_owed, do_command, do_line, goes_on, after_line, ending_of, joined, word_of, words_of, words_behind}
 use Rattle.db_script.specs.Steps.{asked, LineMoment, line_note, JoinsOutput, LineDone, EndsWhole, EndsAtLine, DoesOrEnds}
 use Rattle.db_script.specs.Course.{ScriptMoment, IsAt, IsLeft, LeavesNext, NextDone, NextEnds, EndsStated, DoesNext}
-use Rattle.db_script.specs.Moments.{MayBeDone, IsFromAfter, LeavesLine}
+use Rattle.db_script.specs.Moments.{MayBeDone, CommitsNothing, IsFromAfter, LeavesLine}
 use Rattle.db_script.specs.Batch.{end_note, found_or_note}
 use Rattle.db_script.specs.Reading.{ScriptState, HandsOut, AnswersLine, to_come}
 use Rattle.db_script.specs.declared.script.ScriptFault.{ScriptFault}
 use Rattle.db_script.specs.declared.script.ScriptFault.TheVariants.{TooLong, BadLine as IsBad, NoMemory, InputFault}
 use Rattle.rand_core.specs.Stream.{Stream, next_u32}
 use Rattle.db_script.proofs.LineLemmas.{no_lines}
-use Rattle.db_script.proofs.StandLemmas.{stands_line, more_by}
+use Rattle.db_script.proofs.StandLemmas.{commits_none, more_by, stands_line}
+use Rattle.db_script.proofs.MomentLemmas.{counts_then}
 use Rattle.db_script.proofs.StepLemmas.{failed_or_not}
 
 -- ---- the replies of more lines
@@ -275,6 +276,8 @@ ends_printing kind p old new left note fault at failed way prints = record {
           );
     };
   };
+  whole = λ sound. absurd (sound failed);
+  idle = λ _ sound. absurd (sound failed);
 }
 
 -- what is gathered was printed first
@@ -357,7 +360,7 @@ module _ (kind : DbKind) (p : Progress) (old new : ScriptMoment) (mid : LineMome
   session_next = ap (λ (s : DbState). session_after kind word s command) session ∙ same_session kind word (word_of p) p.session command word_drawn
 
   module _ (way : LeavesBetween old.line.output.host.disk mid.output.host.disk (OpensCommitted kind old.line.session)) (om : GoesOn old.line.output.host.disk mid.output.host.disk)
-      (mn : GoesOn mid.output.host.disk new.line.output.host.disk) where
+      (mn : GoesOn mid.output.host.disk new.line.output.host.disk) (still : KeepsCounts old.line.output.host.disk mid.output.host.disk) where
     left_after : (MayBe : Progress → Type 0) (c : Image) (n : ℕ) → MayBe next → IsFromAfter kind (asked number word command) mid c n → IsLeft kind p to_end MayBe old.line.output c n
     left_after MayBe c n may is = record {
       reached = next;
@@ -390,9 +393,17 @@ module _ (kind : DbKind) (p : Progress) (old new : ScriptMoment) (mid : LineMome
               (λ both. left_after MayBe c n (may both.0) both.1) q.2,
         ))
 
+    idle_next : (result : Option Note) → LeavesLine kind (asked number word command) mid new.line result → kind.works_in_place ≡ false → CommitsNothing (asked number word command) mid result
+        → KeepsCounts old.line.output.host.disk new.line.output.host.disk
+    idle_next result leaves whole nothing = counts_then old.line.output.host.disk mid.output.host.disk new.line.output.host.disk still (leaves.idle whole nothing)
+
+  commits_so : length next.transactions ≡ 0 → commits mid.session.in_transaction command ≡ false
+  commits_so none = ap (λ (s : DbState). commits s.in_transaction command) session ∙ commits_none kind p hands.line command none
+
   next_done : LineDone kind (asked number word command) mid new.line → LeavesNext kind p (ending_of kind p (lines_of (to_come old.reads.script left))) (λ q. q ≡ next) old new
+      → (kind.works_in_place ≡ false → length next.transactions ≡ 0 → KeepsCounts old.line.output.host.disk new.line.output.host.disk)
       → NextDone kind p (ending_of kind p (lines_of (to_come old.reads.script left))) old new
-  next_done done leaves = record {
+  next_done done leaves idle = record {
     left = now;
     shown = shown;
     next = after_line kind p hands.line command;
@@ -410,11 +421,13 @@ module _ (kind : DbKind) (p : Progress) (old new : ScriptMoment) (mid : LineMome
     stands = λ start so. stands_line kind start p hands.line so command;
     more = more_by kind p hands.line command;
     moments = leaves;
+    idle = idle;
   }
 
   next_ends : (note : Note) → EndsAtLine kind (asked number word command) mid new.line note → LeavesNext kind p (ending_of kind p (lines_of (to_come old.reads.script left))) (λ _. IsFault note) old new
+      → (kind.works_in_place ≡ false → (IsFault note → ⊥) → KeepsCounts old.line.output.host.disk new.line.output.host.disk)
       → NextEnds kind p (ending_of kind p (lines_of (to_come old.reads.script left))) old new note
-  next_ends note end leaves = ⊎_elim
+  next_ends note end leaves idle = ⊎_elim
       (λ some. record {
         reached = p;
         rest = lines_of script;
@@ -424,6 +437,8 @@ module _ (kind : DbKind) (p : Progress) (old new : ScriptMoment) (mid : LineMome
         prints = some_then old.line.output mid.output new.line.output.host [] joins (subst (λ (l : List ℕ). PrintsSome l mid.output.host new.line.output.host) (sym (append-nil mid.output.held)) some);
         stated = stated (failed_or_not note);
         moments = leaves;
+        whole = λ sound. whole_then old.line mid new.line same joins (end.whole sound);
+        idle = idle;
       })
       (λ both. record {
         reached = after_line kind p hands.line command;
@@ -435,6 +450,8 @@ module _ (kind : DbKind) (p : Progress) (old new : ScriptMoment) (mid : LineMome
             (subst (λ (l : List ℕ). PrintsSome (mid.output.held ++ l) mid.output.host new.line.output.host) replied both.1);
         stated = stated (failed_or_not note);
         moments = leaves;
+        whole = λ sound. whole_then old.line mid new.line same joins (end.whole sound);
+        idle = idle;
       })
       end.prints
     where
@@ -448,10 +465,12 @@ module _ (kind : DbKind) (p : Progress) (old new : ScriptMoment) (mid : LineMome
       stated (inr sound) = ⊎_elim inl (λ some. inr (met sound some)) end.stated
 
   pub goes_next : LeavesBetween old.line.output.host.disk mid.output.host.disk (OpensCommitted kind old.line.session) → GoesOn old.line.output.host.disk mid.output.host.disk
-      → GoesOn mid.output.host.disk new.line.output.host.disk → (result : Option Note) → DoesOrEnds kind (asked number word command) mid new.line result → LeavesLine kind (asked number word command) mid new.line result
+      → GoesOn mid.output.host.disk new.line.output.host.disk → KeepsCounts old.line.output.host.disk mid.output.host.disk → (result : Option Note) → DoesOrEnds kind (asked number word command) mid new.line result → LeavesLine kind (asked number word command) mid new.line result
       → DoesNext kind p (ending_of kind p (lines_of (to_come old.reads.script left))) old new result
-  goes_next way om mn None does leaves = next_done does (leaves_next way om mn (λ q. q ≡ next) None (λ _. refl) leaves)
-  goes_next way om mn (Some note) does leaves = next_ends note does (leaves_next way om mn (λ _. IsFault note) (Some note) (λ failed. failed) leaves)
+  goes_next way om mn still None does leaves =
+      next_done does (leaves_next way om mn still (λ q. q ≡ next) None (λ _. refl) leaves) (λ whole none. idle_next way om mn still None leaves whole (commits_so none))
+  goes_next way om mn still (Some note) does leaves =
+      next_ends note does (leaves_next way om mn still (λ _. IsFault note) (Some note) (λ failed. failed) leaves) (idle_next way om mn still (Some note) leaves)
 
 -- the line that was found is the one that was handed out
 pub found_handed : {T : Type 0} (said : T → Command) (s t : ScriptState) (script rest : List ℕ) (in_one : Bool) (lines : ℕ) (found : T) (command : Command) (answer : Result (Option T) ScriptFault)
@@ -489,8 +508,9 @@ pub ends_next : {T : Type 0} (said : T → Command) (kind : DbKind) (p : Progres
     → AnswersLine said old.reads.script t (to_come old.reads.script left) (to_come t now) answer → Err note ≡ found_or_note in_one old.reads.script.lines answer
     → ((IsFault result → ⊥) → result ≡ note) → PrintsSome mid.output.held mid.output.host new.line.output.host → ((IsFault result → ⊥) → EndsWhole mid new.line)
     → LeavesNext kind p (ending_of kind p (lines_of (to_come old.reads.script left))) (λ _. IsFault result) old new
+    → (kind.works_in_place ≡ false → KeepsCounts old.line.output.host.disk new.line.output.host.disk)
     → NextEnds kind p (ending_of kind p (lines_of (to_come old.reads.script left))) old new result
-ends_next said kind p old new mid t left now in_one note result answer at joins same still one answers says kept some whole leaves = record {
+ends_next said kind p old new mid t left now in_one note result answer at joins same still one answers says kept some whole leaves idle = record {
   reached = p;
   rest = lines_of (to_come old.reads.script left);
   leads = refl;
@@ -499,6 +519,8 @@ ends_next said kind p old new mid t left now in_one note result answer at joins 
   prints = some_then old.line.output mid.output new.line.output.host [] joins (subst (λ (l : List ℕ). PrintsSome l mid.output.host new.line.output.host) (sym (append-nil mid.output.held)) some);
   stated = stated (failed_or_not result);
   moments = leaves;
+  whole = λ sound. whole_then old.line mid new.line same joins (whole sound);
+  idle = λ in_place _. idle in_place;
 }
   where
     met : (IsFault result → ⊥) → StatedHere p (ending_of kind p (lines_of (to_come old.reads.script left))) 0 note → IsCutOff result ⊎ EndsStated p (ending_of kind p (lines_of (to_come old.reads.script left))) old new result

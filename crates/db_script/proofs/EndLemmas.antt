@@ -5,8 +5,11 @@ use Rattle.base_devices.specs.CrashImages.{Image, GoesOn, IsMoment}
 use Rattle.base_devices.proofs.Moments.{each_then}
 use Rattle.base_devices.specs.HostCalls.{HostMoment, told_with}
 use Rattle.base_notes.specs.declared.note.Note.{Note}
-use Rattle.db_core.specs.Sessions.{DbKind, DbState, aborted}
-use Rattle.db_tool.specs.Doing.{IsStated}
+use Rattle.db_core.specs.Sessions.{DbKind, DbState, aborted, at_rest}
+use Rattle.base_bytes.specs.OrderedMap.{Map}
+use Rattle.base_bytes.specs.Transactions.{after_first}
+use Rattle.base_notes.specs.declared.note.Note.TheVariants.{Memory}
+use Rattle.db_tool.specs.Doing.{IsStated, StandsAfter}
 use Rattle.db_tool.specs.Printing.{Printed, PrintsSome, PrintMoment}
 use Rattle.db_tool.specs.Tasks.{KeepsPrefix, words_after}
 use Rattle.db_tool.specs.ToolNotes.{IsFault, IsCutOff}
@@ -17,11 +20,13 @@ use Rattle.db_script.specs.Lines.{lines_of}
 use Rattle.db_script.specs.Moments.{KeepsFew}
 use Rattle.db_script.specs.Reading.{ScriptState, to_come}
 use Rattle.db_script.specs.Scripts.{Progress, Ending, ending_of, joined, nothing_done, script_task, task_of_ending}
-use Rattle.db_script.specs.Steps.{LineMoment, JoinsOutput}
+use Rattle.db_script.specs.Steps.{LineMoment, JoinsOutput, EndsWhole}
 use Rattle.db_script.proofs.CourseLemmas.{joins_most}
 use Rattle.db_script.proofs.AcknowledgeLemmas.{joined_parts}
 use Rattle.db_script.proofs.StandLemmas.{stands_start}
-use Rattle.db_script.proofs.WayLemmas.{Grows, grows, keeps_few}
+use Rattle.db_script.proofs.WayLemmas.{Grows, acknowledged_so_far, first_of, grows, grows_to, keeps_few}
+use Rattle.db_script.proofs.MomentLemmas.{counts_none, counts_then}
+use Rattle.db_tool.proofs.TaskLemmas.{rests_of}
 
 -- ---- output
 
@@ -106,6 +111,7 @@ leads_start kind words left shown script start new is same moment opens = record
               (omega (arith, now.1)) (omega arith),
         );
   };
+  idle = λ _ _. counts_none start.output.host.disk;
 }
 
 pub leads_more : (kind : DbKind) (e : Ending) (words : Stream) (start : LineMoment) (m n : ScriptMoment) (so : Leads kind e words start m) → start.output.held ≡ []
@@ -136,6 +142,7 @@ leads_more kind e words start m n so none sm mn more = record {
               keeps_left kind e words start m so (λ q. q ≡ more.next) (length more.next.transactions) c k none more.more (λ q is. omega (arith, ap (λ (p : Progress). length p.transactions) is)) q.2,
             );
       });
+  idle = λ whole none. counts_then start.output.host.disk m.line.output.host.disk n.line.output.host.disk (so.idle whole (omega (arith, more.more, none))) (more.idle whole none);
 }
 
 -- at each moment of the script
@@ -180,6 +187,59 @@ leads_to_end kind words script start m n note so none end = record {
           session = is.whole.session ∙ ap (λ (t : DbState). aborted t) (sym so.at.session) ∙ ap (λ (p : Progress). aborted p.session) (sym done);
         })
 
+-- how many transactions stand where no device failed
+module _ (kind : DbKind) (words : Stream) (script : List ℕ) (start : LineMoment) (m n : ScriptMoment) (note : Note) (so : Leads kind (ending_of kind (nothing_done start.session words) (lines_of script)) words start m)
+    (none : start.output.held ≡ []) (end : NextEnds kind so.done (ending_of kind so.done (lines_of (to_come m.reads.script so.left))) m n note) (calm : IsFault note → ⊥) where
+  abbrev e : Ending
+  e = ending_of kind (nothing_done start.session words) (lines_of script)
+
+  abbrev count : ℕ
+  count = length so.done.transactions
+
+  abbrev printed : ℕ
+  printed = n.line.output.host.disk.mark - start.output.host.disk.mark
+
+  whole : EndsWhole m.line n.line
+  whole = end.whole calm
+
+  on : Grows so.done e
+  on = grows_to kind so.done (lines_of (to_come m.reads.script so.left)) e so.leads
+
+  few : printed ≤ length (joined so.done.replies)
+  few = omega (arith, whole.printed.most, joins_most (joined so.done.replies) start.output m.line.output so.output, length-append start.output.held (joined so.done.replies), ap length none)
+
+  all : (note ≡ Memory → ⊥) → IsCutOff note ⊎ EndsStated so.done (ending_of kind so.done (lines_of (to_come m.reads.script so.left))) m n note → count ≡ length e.done.transactions
+  all no_memory (inl (inl failed)) = absurd (calm failed)
+  all no_memory (inl (inr memory)) = absurd (no_memory memory)
+  all no_memory (inr is) = ap (λ (p : Progress). length p.transactions) (sym is.done) ∙ ap (λ (f : Ending). length f.done.transactions) so.leads
+
+  -- the session is the one of the lines so far, given up
+  given_up : n.line.session ≡ aborted so.done.session
+  given_up = whole.session ∙ ap (λ (t : DbState). aborted t) (sym so.at.session)
+
+  rested : m.line.session.is_broken ≡ false → n.line.session ≡ at_rest (after_first count start.session.committed e.done.transactions) n.line.session.load
+  rested sound = rests_of n.line.session (ap (λ (t : DbState). t.is_broken) whole.session ∙ sound) (ap (λ (t : DbState). aborted t) given_up ∙ sym given_up)
+      ∙ ap (λ (c : Map). at_rest c n.line.session.load) (ap (λ (t : DbState). t.committed) given_up ∙ first_of start.session so.done e so.stands on)
+
+  pub stands_to_end : aborted start.session ≡ start.session → m.line.session.is_broken ≡ false → GoesOn start.output.host.disk m.line.output.host.disk → GoesOn m.line.output.host.disk n.line.output.host.disk
+      → StandsAfter kind (script_task kind start.session words script) (record { session = start.session; host = start.output.host }) (record { session = n.line.session; host = n.line.output.host }) note
+  stands_to_end rest sound sm mn = record {
+    count = count;
+    within = omega (arith, ap length on.transactions, length-append so.done.transactions on.later);
+    rests = rested sound;
+    whole = λ no_memory. all no_memory end.stated;
+    memory = λ _. acknowledged_so_far start.session so.done e printed so.stands on few;
+    no_more = each_then start.output.host.disk m.line.output.host.disk n.line.output.host.disk _ sm mn
+        (record { each = λ c k left. let q = (so.moments.each c k left).2 in record { count = q.prefix.count; within = q.few; holds = q.prefix.holds } })
+        (record {
+          each = λ c k left.
+              let q = keeps_left kind e words start m so (λ _. IsFault note) count c k none (omega arith) (λ _ failed. absurd (calm failed)) (end.moments.each.each c k left).2 in
+              record { count = q.prefix.count; within = q.few; holds = q.prefix.holds };
+        });
+    same = λ zero_count. given_up ∙ so.stands.same zero_count ∙ rest;
+    idle = λ zero_count in_place. counts_then start.output.host.disk m.line.output.host.disk n.line.output.host.disk (so.idle in_place zero_count) (end.idle in_place calm);
+  }
+
 pub words_to_end : (kind : DbKind) (words : Stream) (script : List ℕ) (start : LineMoment) (m n : ScriptMoment) (note : Note) (so : Leads kind (ending_of kind (nothing_done start.session words) (lines_of script)) words start m)
     → NextEnds kind so.done (ending_of kind so.done (lines_of (to_come m.reads.script so.left))) m n note → DrawsStated (script_task kind start.session words script) words n.reads.words note
 words_to_end kind words script start m n note so end =
@@ -200,4 +260,18 @@ nothing_leaves kind s words script h same moment opens = record {
         omega (arith, now.1),
         (keeps_few kind s _ (nothing_done s words) (lines_of script) 0 (n - h.disk.mark) c refl (stands_start s words same) (opens c now.0) (omega (arith, now.1)) (omega arith)).prefix,
       );
+}
+
+pub nothing_stands : (kind : DbKind) (s : DbState) (words : Stream) (script : List ℕ) (h : HostMoment) → s.is_broken ≡ false → aborted s ≡ s → IsMoment h.disk
+    → ((c : Image) → h.disk.leaves c → kind.opens c s.committed) → StandsAfter kind (script_task kind s words script) (record { session = s; host = h }) (record { session = s; host = h }) Memory
+unfolding joined
+nothing_stands kind s words script h sound rest moment opens = record {
+  count = 0;
+  within = omega arith;
+  rests = rests_of s sound rest;
+  whole = λ no_memory. absurd (no_memory refl);
+  memory = λ _. acknowledged_so_far s (nothing_done s words) _ (h.disk.mark - h.disk.mark) (stands_start s words (ap (λ (t : DbState). t.seen) (sym rest))) (grows kind (nothing_done s words) (lines_of script)) (omega arith);
+  no_more = record { each = λ c n left. record { count = 0; within = omega arith; holds = opens c (moment.now c n left).0 } };
+  same = λ _. refl;
+  idle = λ _ _. counts_none h.disk;
 }

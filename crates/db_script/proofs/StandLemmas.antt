@@ -6,17 +6,17 @@ use Rattle.base_bytes.specs.Transactions.{Transaction, after_change, after_trans
 use Rattle.base_bytes.specs.OrderedMap.{Map}
 use Rattle.base_bytes.specs.declared.change.Change.{Change}
 use Rattle.base_bytes.specs.declared.change.Change.TheVariants.{Put, Del}
-use Rattle.db_core.specs.Sessions.{DbKind, DbState, begun, change_after, committed}
+use Rattle.db_core.specs.Sessions.{DbKind, DbState, begun, change_after, committed, aborted}
 use Rattle.rand_core.specs.Stream.{Stream}
 use Rattle.db_script.specs.Lines.{Command, begin, commit, abort, show, get, set, delete}
 use Rattle.db_script.specs.Moments.{committing, Stands}
-use Rattle.db_script.specs.Replies.{change_reply}
-use Rattle.db_script.specs.Scripts.{Progress, nothing_done, joined_to, after_line, words_of, words_behind, word_of}
+use Rattle.db_script.specs.Replies.{change_reply, commits}
+use Rattle.db_script.specs.Scripts.{Progress, nothing_done, joined_to, after_line, waiting_after, words_of, words_behind, word_of}
 use Rattle.db_script.proofs.AcknowledgeLemmas.{committing_more}
 
 pub stands_start : (s : DbState) (words : Stream) → s.seen ≡ s.committed → Stands s (nothing_done s words)
 unfolding committing
-stands_start s words same = record { replied = refl; committed = refl; seen = same; outside = λ _. refl }
+stands_start s words same = record { replied = refl; committed = refl; seen = same; outside = λ _. refl; same = λ _. refl }
 
 -- ---- one change
 
@@ -32,6 +32,10 @@ changed_stands : (kind : DbKind) (s : DbState) (change : Change) → (change_aft
 changed_stands kind s (Put word key value) = refl
 changed_stands kind s (Del key) = refl
 
+changed_base : (kind : DbKind) (s : DbState) (change : Change) → aborted (change_after kind s change) ≡ aborted s
+changed_base kind s (Put word key value) = refl
+changed_base kind s (Del key) = refl
+
 -- ---- one line
 
 module _ (kind : DbKind) (start : DbState) (p : Progress) (line : List ℕ) (so : Stands start p) where
@@ -44,6 +48,9 @@ module _ (kind : DbKind) (start : DbState) (p : Progress) (line : List ℕ) (so 
 
   spoken : (text : List ℕ) (t : Transaction) → committing (p.replies ++ (record { text = text; commits = true } ∷ [])) ≡ length (p.transactions ++ (t ∷ []))
   spoken text t = omega (arith, committing_more p.replies (record { text = text; commits = true }), so.replied, length-append p.transactions (t ∷ []))
+
+  some_behind : (t : Transaction) → length (p.transactions ++ (t ∷ [])) ≡ 0 → ⊥
+  some_behind t none = absurd (omega (arith, none, length-append p.transactions (t ∷ [])))
 
   -- the changes of the open transaction, if one is open
   kept_by : (b : Bool) → s.in_transaction ≡ b → (if b then p.waiting else []) ≡ p.waiting
@@ -90,6 +97,7 @@ module _ (kind : DbKind) (start : DbState) (p : Progress) (line : List ℕ) (so 
             ∙ ap (λ (m : Map). after_transaction m (p.waiting ++ (change ∷ []))) (sym base)
             ∙ ap (λ (b : Bool). after_transaction (change_after kind s change).committed (if b then p.waiting ++ (change ∷ []) else [])) (sym still);
         outside = λ out. absurd (cc (still, out));
+        same = λ none. changed_base kind s change ∙ so.same none;
       }
   stands_change change words drawn text false is = record {
     replied = spoken text (change ∷ []);
@@ -98,6 +106,7 @@ module _ (kind : DbKind) (start : DbState) (p : Progress) (line : List ℕ) (so 
         ∙ sym (fold_push after_transaction start.committed p.transactions (change ∷ []));
     seen = refl;
     outside = λ _. refl;
+    same = λ none. absurd (some_behind (change ∷ []) none);
   }
 
   pub stands_line : (command : Command) → Stands start (after_line kind p line command)
@@ -106,6 +115,7 @@ module _ (kind : DbKind) (start : DbState) (p : Progress) (line : List ℕ) (so 
     committed = so.committed;
     seen = so.seen ∙ ap (after_transaction s.committed) (sym kept);
     outside = λ out. absurd (cc out);
+    same = λ none. so.same none;
   }
   stands_line commit = record {
     replied = spoken _ _;
@@ -114,19 +124,22 @@ module _ (kind : DbKind) (start : DbState) (p : Progress) (line : List ℕ) (so 
         ∙ sym (fold_push after_transaction start.committed p.transactions (if s.in_transaction then p.waiting else []));
     seen = refl;
     outside = λ _. refl;
+    same = λ none. absurd (some_behind _ none);
   }
-  stands_line abort = record { replied = quiet _; committed = so.committed; seen = refl; outside = λ _. refl }
+  stands_line abort = record { replied = quiet _; committed = so.committed; seen = refl; outside = λ _. refl; same = λ none. so.same none }
   stands_line (show prefix) = record {
     replied = quiet _;
     committed = so.committed;
     seen = so.seen ∙ ap (after_transaction s.committed) (sym twice);
     outside = λ out. twice ∙ so.outside out;
+    same = λ none. so.same none;
   }
   stands_line (get key) = record {
     replied = quiet _;
     committed = so.committed;
     seen = so.seen ∙ ap (after_transaction s.committed) (sym twice);
     outside = λ out. twice ∙ so.outside out;
+    same = λ none. so.same none;
   }
   stands_line (set key value) =
       stands_change (Put (word_of p) key value) (words_behind (set key value) p.words) (p.drawn + words_of (set key value)) (change_reply s.in_transaction) s.in_transaction refl
@@ -140,3 +153,11 @@ some_more false transactions t = omega arith
 
 pub more_by : (kind : DbKind) (p : Progress) (line : List ℕ) (command : Command) → length p.transactions ≤ length (after_line kind p line command).transactions
 more_by kind p line command = some_more _ p.transactions _
+
+none_behind : (b : Bool) (transactions : List Transaction) (t : Transaction) → length (if b then transactions ++ (t ∷ []) else transactions) ≡ 0 → b ≡ false
+none_behind true transactions t none = absurd (omega (arith, none, length-append transactions (t ∷ [])))
+none_behind false transactions t none = refl
+
+-- where none stands the line commits none
+pub commits_none : (kind : DbKind) (p : Progress) (line : List ℕ) (command : Command) → length (after_line kind p line command).transactions ≡ 0 → commits p.session.in_transaction command ≡ false
+commits_none kind p line command none = none_behind (commits p.session.in_transaction command) p.transactions (waiting_after p command) none

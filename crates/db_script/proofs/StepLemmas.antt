@@ -4,6 +4,7 @@ use Rattle.std.specs.Option.{option_map}
 use Rattle.std.specs.Prelude.{if◌then◌else◌}
 use Rattle.base_bytes.specs.declared.change.Change.TheVariants.{Put, Del}
 use Rattle.base_devices.specs.CrashImages.{Image, GoesOn}
+use Rattle.base_devices.specs.Frames.{KeepsCounts}
 use Rattle.base_devices.specs.HostCalls.{HostMoment}
 use Rattle.base_notes.specs.declared.note.Device.TheVariants.{Host}
 use Rattle.base_notes.specs.declared.note.Note.{Note}
@@ -21,7 +22,7 @@ use Rattle.db_script.specs.Doing.{DoesLine, OpensWith}
 use Rattle.db_script.specs.Moments.{MayBeDone, LeavesLine}
 use Rattle.db_script.proofs.MomentLemmas.{line_given_up, line_replied}
 use Rattle.db_script.specs.Lines.{Command, begin, commit, abort, show, get, set, delete}
-use Rattle.db_script.specs.Replies.{is_placed, change_of, owed_by, reply_in, reply_of, session_after}
+use Rattle.db_script.specs.Replies.{is_placed, change_of, commits, owed_by, reply_in, reply_of, session_after}
 use Rattle.db_script.specs.Steps.{Asked, LineMoment, line_note, LineDone, LineEnds, EndsWhole, EndsAtLine}
 
 -- the reply looks at the map that was seen before the line
@@ -125,9 +126,10 @@ module _ (kind : DbKind) (a : Asked) (old mid new : LineMoment) (in_one : Bool) 
 
   pub line_leaves : {T E : Type 0} (result : Option Note) (r : Result T E) → MayBeDone result → old.session.is_broken ≡ false
       → OnDisk old.session (OpensWith kind old.session (session_after kind a.word old.session a.command)) old.output.host.disk mid.output.host.disk
+      → (kind.works_in_place ≡ false → commits old.session.in_transaction a.command ≡ false → KeepsCounts old.output.host.disk mid.output.host.disk)
       → GoesOn old.output.host.disk mid.output.host.disk → GoesOn mid.output.host.disk new.output.host.disk
       → ((c : Image) → mid.output.host.disk.leaves c → kind.opens c mid.session.committed) → Prints reply mid.output new.output r → LeavesLine kind a old new result
-  line_leaves result r may sound disk om mn opens prints = line_replied kind a old mid new reply result r may sound is_done after joined nothing disk om mn opens prints
+  line_leaves result r may sound disk idle om mn opens prints = line_replied kind a old mid new reply result r may sound is_done after joined nothing disk idle om mn opens prints
 
 pub line_refused_leaves : (kind : DbKind) (a : Asked) (old new : LineMoment) (fault : DbFault) → is_placed old.session.in_transaction a.command ≡ true → old.session.is_broken ≡ false
     → DoesLine {T = Unit {0}} kind a.word a.command (over old.output.host.disk old.session) (over new.output.host.disk new.session) (Err fault) → LeavesLine kind a old new (Some (change_note Host fault))

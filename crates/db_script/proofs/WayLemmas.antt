@@ -91,21 +91,30 @@ all_first : (first later : List Transaction) → take (length first) (first ++ l
 all_first first later = take-append-le (length first) first later (omega arith) ∙ take_all (length first) first (omega arith)
 
 -- the committed map is the one after the first few of the end's transactions
-first_of : (start : DbState) (q : Progress) (e : Ending) → Stands start q → Grows q e → q.session.committed ≡ after_first (length q.transactions) start.committed e.done.transactions
+pub first_of : (start : DbState) (q : Progress) (e : Ending) → Stands start q → Grows q e → q.session.committed ≡ after_first (length q.transactions) start.committed e.done.transactions
 first_of start q e stands on = stands.committed
     ∙ ap (after_transactions start.committed) (sym (all_first q.transactions on.later))
     ∙ ap (λ (l : List Transaction). after_transactions start.committed (take (length q.transactions) l)) (sym on.transactions)
 
--- an image that opens to it, while no more is printed than the replies
+-- the end is on the way from these lines
+pub grows_to : (kind : DbKind) (q : Progress) (rest : List (List ℕ)) (e : Ending) → ending_of kind q rest ≡ e → Grows q e
+grows_to kind q rest e leads = subst (λ (f : Ending). Grows q f) leads (grows kind q rest)
+
+-- while no more is printed than the replies of these lines, no more is acknowledged than they committed
+pub acknowledged_so_far : (start : DbState) (q : Progress) (e : Ending) (printed : ℕ) → Stands start q → Grows q e → printed ≤ length (joined q.replies) → acknowledged e.done.replies printed ≤ length q.transactions
+acknowledged_so_far start q e printed stands on within =
+    omega (arith, ap (λ (replies : List Reply). acknowledged replies printed) on.replies, within_first q.replies on.more printed on.spoken within, stands.replied)
+
+-- an image that opens to their map
 pub keeps_few : (kind : DbKind) (start : DbState) (e : Ending) (q : Progress) (rest : List (List ℕ)) (most printed : ℕ) (c : Image) → ending_of kind q rest ≡ e → Stands start q → kind.opens c q.session.committed
     → printed ≤ length (joined q.replies) → length q.transactions ≤ most → KeepsFew kind (task_of_ending e) start most printed c
 keeps_few kind start e q rest most printed c leads stands opens within few =
-    let on : Grows q e = subst (λ (f : Ending). Grows q f) leads (grows kind q rest) in
+    let on = grows_to kind q rest e leads in
     record {
       prefix = record {
         count = length q.transactions;
         within = omega (arith, ap length on.transactions, length-append q.transactions on.later);
-        acknowledged = omega (arith, ap (λ (replies : List Reply). acknowledged replies printed) on.replies, within_first q.replies on.more printed on.spoken within, stands.replied);
+        acknowledged = acknowledged_so_far start q e printed stands on within;
         holds = subst (λ (m : Map). kind.opens c m) (first_of start q e stands on) opens;
       };
       few = few;

@@ -1,6 +1,7 @@
 -- The course of a script: how what was done so far leads to its end.
-use Rattle.std.specs.Prelude.{◌≡◌, ◌⊎◌, ℕ, ◌+◌, ◌-◌, ◌≤◌, List, ◌++◌, length, Option, None, Some}
+use Rattle.std.specs.Prelude.{◌≡◌, ◌⊎◌, ℕ, ◌+◌, ◌-◌, ◌≤◌, false, List, ◌++◌, length, Option, None, Some}
 use Rattle.base_devices.specs.CrashImages.{Image, LeavesOnly}
+use Rattle.base_devices.specs.Frames.{KeepsCounts}
 use Rattle.base_notes.specs.declared.note.Note.{Note}
 use Rattle.db_core.specs.Sessions.{DbKind, DbState}
 use Rattle.db_tool.specs.Doing.{ToolMoment, IsStated}
@@ -71,6 +72,7 @@ pub record NextDone (kind : DbKind) (p : Progress) (e : Ending) (old new : Scrip
   pub stands : (start : DbState) → Stands start p → Stands start next
   pub more : length p.transactions ≤ length next.transactions
   pub moments : LeavesNext kind p e (λ q. q ≡ next) old new
+  pub idle : kind.works_in_place ≡ false → length next.transactions ≡ 0 → KeepsCounts old.line.output.host.disk new.line.output.host.disk
 
 -- the stated end: no line is done besides these, and all that was gathered is printed
 pub record EndsStated (p : Progress) (e : Ending) (old new : ScriptMoment) (note : Note) : Type 0 where
@@ -89,6 +91,8 @@ pub record NextEnds (kind : DbKind) (p : Progress) (e : Ending) (old new : Scrip
   pub prints : PrintsSome (old.line.output.held ++ reply) old.line.output.host new.line.output.host
   pub stated : IsCutOff note ⊎ EndsStated p e old new note
   pub moments : LeavesNext kind p e (λ _. IsFault note) old new
+  pub whole : (IsFault note → ⊥) → EndsWhole old.line new.line
+  pub idle : kind.works_in_place ≡ false → (IsFault note → ⊥) → KeepsCounts old.line.output.host.disk new.line.output.host.disk
 
 abbrev pub DoesNext : DbKind → Progress → Ending → ScriptMoment → ScriptMoment → Option Note → Type 0
 DoesNext kind p e old new None = NextDone kind p e old new
@@ -117,6 +121,7 @@ pub record Leads (kind : DbKind) (e : Ending) (words : Stream) (start : LineMome
   pub moments : LeavesOnly start.output.host.disk m.line.output.host.disk
       (λ c n. (start.output.host.disk.mark ≤ n) × (n ≤ m.line.output.host.disk.mark)
       × KeepsFew kind (task_of_ending e) start.session (length done.transactions) (n - start.output.host.disk.mark) c)
+  pub idle : kind.works_in_place ≡ false → length done.transactions ≡ 0 → KeepsCounts start.output.host.disk m.line.output.host.disk
 
 -- The stated end was reached unless the script was cut off, and at any end a prefix of the stated output was printed.
 pub record EndsAsStated (task : Task) (old new : ToolMoment) (note : Note) : Type 0 where

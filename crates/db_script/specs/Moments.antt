@@ -2,11 +2,12 @@
 use Rattle.std.specs.Prelude.{◌≡◌, ◌⊎◌, ℕ, ◌+◌, ◌≤◌, false, List, [], ◌∷◌, ◌++◌, length, Option, None, Some, if◌then◌else◌}
 use Rattle.base_bytes.specs.Transactions.{after_transaction, after_transactions}
 use Rattle.base_devices.specs.CrashImages.{Image, LeavesOnly}
+use Rattle.base_devices.specs.Frames.{KeepsCounts}
 use Rattle.base_notes.specs.declared.note.Note.{Note}
-use Rattle.db_core.specs.Sessions.{DbKind, DbState}
+use Rattle.db_core.specs.Sessions.{DbKind, DbState, aborted}
 use Rattle.db_tool.specs.Tasks.{Task, KeepsPrefix}
 use Rattle.db_tool.specs.ToolNotes.{IsFault}
-use Rattle.db_script.specs.Replies.{reply_of, session_after}
+use Rattle.db_script.specs.Replies.{commits, reply_of, session_after}
 use Rattle.db_script.specs.Scripts.{Progress, Reply}
 use Rattle.db_script.specs.Steps.{Asked, LineMoment, line_note}
 
@@ -23,6 +24,8 @@ pub record Stands (start : DbState) (p : Progress) : Type 0 where
   pub committed : p.session.committed ≡ after_transactions start.committed p.transactions
   pub seen : p.session.seen ≡ after_transaction p.session.committed p.waiting
   pub outside : p.session.in_transaction ≡ false → p.waiting ≡ []
+  -- where none is committed the session goes back to its start
+  pub same : length p.transactions ≡ 0 → aborted p.session ≡ aborted start
 
 -- The image opens to the map after the first few of the task's transactions, no more than these.
 pub record KeepsFew (kind : DbKind) (task : Task) (start : DbState) (most printed : ℕ) (c : Image) : Type 0 where
@@ -46,8 +49,15 @@ pub record IsFromAfter (kind : DbKind) (a : Asked) (old : LineMoment) (c : Image
   pub opens : kind.opens c (session_after kind a.word old.session a.command).committed
   pub within : n ≤ old.output.host.disk.mark + length (old.output.held ++ reply_of old.session a.command)
 
+-- nothing was committed: the line is no committing one, or it was not done and no device failed
+abbrev pub CommitsNothing : Asked → LineMoment → Option Note → Type 0
+CommitsNothing a old None = commits old.session.in_transaction a.command ≡ false
+CommitsNothing a old (Some note) = IsFault note → ⊥
+
 -- At each moment of a line the image is from before it, or from after it where it may be done.
 pub record LeavesLine (kind : DbKind) (a : Asked) (old new : LineMoment) (result : Option Note) : Type 0 where
   pub later : old.output.host.disk.mark ≤ new.output.host.disk.mark
   pub each : LeavesOnly old.output.host.disk new.output.host.disk
       (λ c n. (old.output.host.disk.mark ≤ n) × (n ≤ new.output.host.disk.mark) × (IsFromBefore kind old c n ⊎ (MayBeDone result × IsFromAfter kind a old c n)))
+  -- a file that is rewritten whole is begun only where a transaction is committed
+  pub idle : kind.works_in_place ≡ false → CommitsNothing a old result → KeepsCounts old.output.host.disk new.output.host.disk

@@ -12,7 +12,7 @@ ghost use Rattle.db_script.specs.declared.buffer.Found.{Found};
 ghost use Rattle.db_script.specs.declared.script.ScriptFault.{ScriptFault};
 ghost use Rattle.db_script.specs.Lines.{command_of};
 ghost use Rattle.db_script.specs.Scripts.{script_task, words_behind};
-ghost use Rattle.base_devices.specs.Frames.{LeavesBetween};
+ghost use Rattle.base_devices.specs.Frames.{KeepsCounts, LeavesBetween};
 ghost use Rattle.base_devices.specs.HostCalls.{moment};
 ghost use Rattle.rand_core.specs.Stream.{next_u32};
 ghost use Rattle.db_script.specs.Replies.{change_of};
@@ -20,7 +20,7 @@ ghost use Rattle.db_script.specs.Moments.{LeavesLine};
 ghost use Rattle.db_script.specs.Steps.{DoesOne, DoesOrEnds, EndsWhole, asked, gathered};
 ghost use Rattle.db_tool.specs.Printing.{Prints, PrintsSome, holding};
 ghost use Rattle.db_script.specs.Course.{DrawsStated, EndsAsStated, GoesOnFrom, LeavesPrefixes, script_over, to_read};
-ghost use Rattle.db_tool.specs.Doing.{during};
+ghost use Rattle.db_tool.specs.Doing.{StandsAfter, during};
 ghost use Rattle.db_tool.specs.ToolNotes.{Faults, IsFault};
 
 use crate::buffer::Found;
@@ -107,6 +107,8 @@ fn finish<H: Host, B: Db<H>>(note: Note, db: &mut B, host: &mut H, output: &mut 
         (gathered (B.state db.new) (holding output.new (H.state host.new) (H.streams host.new))) }
     ensures moments { LeavesBetween (H.state host.old) (H.state host.new)
         (OpensCommitted B.kind (B.state db.old)) }
+    ensures idle { B.kind.works_in_place ≡ false
+        → KeepsCounts (H.state host.old) (H.state host.new) }
     ensures tied { B.tie db.new host.new }
     ensures rest { H.host_rest host.old host.new }
 {
@@ -164,6 +166,8 @@ fn stop<H: Host, B: Db<H>>(note: Note, db: &mut B, host: &mut H, output: &mut Pi
         (gathered (B.state db.new) (holding output.new (H.state host.new) (H.streams host.new))) }
     ensures moments { (IsFault note → ⊥) → LeavesBetween (H.state host.old) (H.state host.new)
         (OpensCommitted B.kind (B.state db.old)) }
+    ensures idle { B.kind.works_in_place ≡ false
+        → KeepsCounts (H.state host.old) (H.state host.new) }
     ensures tied { B.tie db.new host.new }
     ensures rest { H.host_rest host.old host.new }
 {
@@ -318,6 +322,10 @@ fn do_lines<H: Host, B: Db<H>, I: Source, R: Rng>(
         → LeavesPrefixes B.kind (script_task B.kind (B.state db.old) (R.stream rng.old) left)
         (during (H.state host.old) (H.streams host.old) (B.state db.old))
         (during (H.state host.new) (H.streams host.new) (B.state db.new)) }
+    ensures stands { (left : List ℕ) → (I.state input.old).left ≡ Some left → (IsFault result → ⊥)
+        → StandsAfter B.kind (script_task B.kind (B.state db.old) (R.stream rng.old) left)
+        (during (H.state host.old) (H.streams host.old) (B.state db.old))
+        (during (H.state host.new) (H.streams host.new) (B.state db.new)) result }
     ensures words { (left : List ℕ) → (I.state input.old).left ≡ Some left
         → DrawsStated (script_task B.kind (B.state db.old) (R.stream rng.old) left)
         (R.stream rng.old) (R.stream rng.new) result }
@@ -384,6 +392,13 @@ pub fn batch<H: Host, B: Db<H>, I: Source, R: Rng>(
     ensures words { (left : List ℕ) → (I.state input.old).left ≡ Some left
         → DrawsStated (script_task B.kind (B.state db.old) (R.stream rng.old) left)
         (R.stream rng.old) (R.stream rng.new) result.note }
+
+    // Of a source that shows its bytes: at an end without a fault of a device all of the transactions stand, or where memory
+    // ran out some first of them, those whose reply was printed among them.
+    ensures stands { (left : List ℕ) → (I.state input.old).left ≡ Some left → (IsFault result.note → ⊥)
+        → StandsAfter B.kind (script_task B.kind (B.state db.old) (R.stream rng.old) left)
+        (during (H.state host.old) (H.streams host.old) (B.state db.old))
+        (during (H.state host.new) (H.streams host.new) (B.state db.new)) result.note }
 
     ensures closed { (IsFault result.note → ⊥) → (B.state db.new).in_transaction ≡ false }
     ensures status { result.status ≡ status_of result.note }

@@ -59,7 +59,7 @@ returns-in-Ok-clause-moments g c =
     let nothing = printed_still old.output.host mid.output.host (g.met.H.Host.disk_keeps _ _ c.in_default.ensures.rest) c.in_default.ensures.does.disk.mark in
     let sound : (g.B.Db.state c.act.new.db).is_broken ≡ false = ap (λ (s : DbState). s.is_broken) c.in_default.ensures.does.done ∙ still_sound g.B.Db.kind c.args.word old.session (command_of c.args.line.now) ∙ c.requires.sound in
     line_leaves g.B.Db.kind a old mid new _ c.in_transaction-in_transaction.ensures (sym (c.if-not-is_placed.ensures ∙ ap (λ (b : Bool). is_placed b (command_of c.args.line.now)) c.in_transaction-in_transaction.ensures)) c.in_default.ensures.does.ok c.in_default.ensures.does.done refl nothing
-    None _ tt c.requires.sound c.in_default.ensures.does.disk (g.met.H.Disk.rest_goes_on _ _ c.in_default.ensures.rest) (g.met.H.Host.host_goes_on _ _ c.reply.ensures.rest)
+    None _ tt c.requires.sound c.in_default.ensures.does.disk c.in_default.ensures.does.idle (g.met.H.Disk.rest_goes_on _ _ c.in_default.ensures.rest) (g.met.H.Host.host_goes_on _ _ c.reply.ensures.rest)
     (g.met.B.Db.tie_opens _ _ sound c.in_default.ensures.tied) c.in-Ok.ensures.prints
 
 pub returns-in-Err-reply-clause-moments : goal.returns-in-Err-reply-clause-moments
@@ -71,5 +71,5 @@ returns-in-Err-reply-clause-moments g c =
     let nothing = printed_still old.output.host mid.output.host (g.met.H.Host.disk_keeps _ _ c.in_default.ensures.rest) c.in_default.ensures.does.disk.mark in
     let sound : (g.B.Db.state c.act.new.db).is_broken ≡ false = ap (λ (s : DbState). s.is_broken) c.in_default.ensures.does.done ∙ still_sound g.B.Db.kind c.args.word old.session (command_of c.args.line.now) ∙ c.requires.sound in
     line_leaves g.B.Db.kind a old mid new _ c.in_transaction-in_transaction.ensures (sym (c.if-not-is_placed.ensures ∙ ap (λ (b : Bool). is_placed b (command_of c.args.line.now)) c.in_transaction-in_transaction.ensures)) c.in_default.ensures.does.ok c.in_default.ensures.does.done refl nothing
-    (Some _) _ tt c.requires.sound c.in_default.ensures.does.disk (g.met.H.Disk.rest_goes_on _ _ c.in_default.ensures.rest) (g.met.H.Host.host_goes_on _ _ c.reply.ensures.rest)
+    (Some _) _ tt c.requires.sound c.in_default.ensures.does.disk c.in_default.ensures.does.idle (g.met.H.Disk.rest_goes_on _ _ c.in_default.ensures.rest) (g.met.H.Host.host_goes_on _ _ c.reply.ensures.rest)
     (g.met.B.Db.tie_opens _ _ sound c.in_default.ensures.tied) c.in-Err-reply.ensures.prints

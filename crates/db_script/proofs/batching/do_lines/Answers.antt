@@ -4,7 +4,7 @@ use Rattle.db_tool.specs.Printing.{holding}
 use Rattle.db_script.specs.Course.{ScriptMoment, script_over, to_read}
 use Rattle.db_script.specs.Reading.{script_state}
 use Rattle.db_script.specs.Steps.{LineMoment, gathered}
-use Rattle.db_script.proofs.EndLemmas.{leads_start, leads_more, leads_to_end, leaves_to_end, words_to_end}
+use Rattle.db_script.proofs.EndLemmas.{leads_start, leads_more, leads_to_end, leaves_to_end, stands_to_end, words_to_end}
 use Rattle.db_script.proofs.batching.do_lines.Goals as goal
 
 pub loop-init : goal.loop-init
@@ -52,6 +52,17 @@ returns-in-Some-clause-moments g c left shown =
     let so = c.loop.invariant.course left shown in
     leaves_to_end g.B.Db.kind _ (g.R.Rng.stream c.args.rng.now) start mid new c.in-Some.note so c.requires.empty
     (g.met.H.Host.host_goes_on _ _ c.loop.invariant.rest) (g.met.H.Host.host_goes_on _ _ c.do_next.ensures.rest) (c.in-Some.ensures.goes so.left so.shown so.done so.at)
+
+pub returns-in-Some-clause-stands : goal.returns-in-Some-clause-stands
+returns-in-Some-clause-stands g c left shown calm =
+    let start : LineMoment = gathered (g.B.Db.state c.args.db.now) (holding c.args.output.now (g.H.Disk.state c.args.host.now) (g.H.Host.streams c.args.host.now)) in
+    let mid : ScriptMoment = script_over (to_read (script_state c.loop.script) (g.I.Source.state c.loop.input).left (g.R.Rng.stream c.loop.rng))
+    (gathered (g.B.Db.state c.loop.db) (holding c.loop.output (g.H.Disk.state c.loop.host) (g.H.Host.streams c.loop.host))) in
+    let new : ScriptMoment = script_over (to_read (script_state c.do_next.new.script) (g.I.Source.state c.do_next.new.input).left (g.R.Rng.stream c.do_next.new.rng))
+    (gathered (g.B.Db.state c.do_next.new.db) (holding c.do_next.new.output (g.H.Disk.state c.do_next.new.host) (g.H.Host.streams c.do_next.new.host))) in
+    let so = c.loop.invariant.course left shown in
+    stands_to_end g.B.Db.kind (g.R.Rng.stream c.args.rng.now) left start mid new c.in-Some.note so c.requires.empty (c.in-Some.ensures.goes so.left so.shown so.done so.at) calm
+    (g.met.B.Db.outside _ c.requires.sound c.requires.closed) c.loop.invariant.sound (g.met.H.Host.host_goes_on _ _ c.loop.invariant.rest) (g.met.H.Host.host_goes_on _ _ c.do_next.ensures.rest)
 
 pub loop-preserved : goal.loop-preserved
 loop-preserved g c = record {

@@ -9,7 +9,7 @@ use Rattle.db_script.specs.Lines.{command_of}
 use Rattle.db_script.specs.Reading.{script_state}
 use Rattle.db_script.specs.Steps.{LineMoment, gathered}
 use Rattle.db_script.proofs.CourseLemmas.{goes_next, found_handed, ends_next, ends_printing, joins_of, left_printed, left_stopped}
-use Rattle.db_script.proofs.MomentLemmas.{between_prints}
+use Rattle.db_script.proofs.MomentLemmas.{between_prints, counts_printed, counts_then}
 use Rattle.db_script.proofs.StepLemmas.{failed_or_not}
 use Rattle.db_script.proofs.batching.do_next.Goals as goal
 
@@ -25,6 +25,7 @@ returns-in-Ok-clause-goes g c left shown p at =
     goes_next g.B.Db.kind p old new mid _ c.word_for-word.result (command_of c.line-line.result) left answers.0 at (joins_of [] old.line.output mid.output _ c.in_default.ensures.prints) refl answers.1
     (found_handed (found_in c.next_found.new.script.buffer) _ _ _ _ _ _ c.in-Ok.found (command_of c.line-line.result) reads.0 answers.2 reads.2 c.line-line.ensures) (ap (λ (n : ℕ). n + 1) c.lines-number.ensures.lines) c.word_for-word.ensures.word c.word_for-word.ensures.rest
     (between_prints _ _ _ (g.met.B.Db.tie_opens _ _ c.requires.sound c.requires.tied) c.in_default.ensures.prints.disk) (g.met.H.Host.host_goes_on _ _ c.make_way.ensures.rest) (g.met.H.Host.host_goes_on _ _ c.do_or_stop.ensures.rest)
+    (counts_printed _ _ c.in_default.ensures.prints.disk)
     c.do_or_stop.result c.do_or_stop.ensures.does c.do_or_stop.ensures.moments
 
 pub returns-in-Err-next_found-clause-goes : goal.returns-in-Err-next_found-clause-goes
@@ -45,6 +46,7 @@ returns-in-Err-next_found-clause-goes g c left shown p at =
     (λ sound. left_stopped g.B.Db.kind p _ _ (λ _. IsFault c.stop.result) old new mid refl at joins way (g.met.H.Host.host_goes_on _ _ c.make_way.ensures.rest) (g.met.H.Host.host_goes_on _ _ c.stop.ensures.rest)
     c.stop.ensures.some.grew.later refl c.stop.ensures.some (c.stop.ensures.moments sound))
     (failed_or_not c.in-Err-next_found.note))
+    (λ whole. counts_then old.line.output.host.disk mid.output.host.disk new.line.output.host.disk (counts_printed _ _ c.in_default.ensures.prints.disk) (c.stop.ensures.idle whole))
 
 pub returns-in-Err-clause-goes : goal.returns-in-Err-clause-goes
 returns-in-Err-clause-goes g c left shown p at =

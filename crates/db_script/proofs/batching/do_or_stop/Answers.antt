@@ -22,4 +22,4 @@ returns-in-Some-clause-moments g c =
     let new : LineMoment = gathered (g.B.Db.state c.stop.new.db) (holding c.stop.new.output (g.H.Disk.state c.stop.new.host) (g.H.Host.streams c.stop.new.host)) in
     stops_leaving g.B.Db.kind (asked c.args.number c.args.word (command_of c.args.line.now)) old mid new c.in-Some.note c.stop.result (failed_or_not c.in-Some.note) c.in-Some.ensures.moments c.in-Some.ensures.does
     (λ failed. let same = c.stop.ensures.fault failed in (same.0, ap (λ h. moment (g.H.Disk.state h) (g.H.Host.streams h)) same.1))
-    (g.met.H.Host.host_goes_on _ _ c.do_line.ensures.rest) (g.met.H.Host.host_goes_on _ _ c.stop.ensures.rest) c.stop.ensures.some c.stop.ensures.moments
+    (g.met.H.Host.host_goes_on _ _ c.do_line.ensures.rest) (g.met.H.Host.host_goes_on _ _ c.stop.ensures.rest) c.stop.ensures.some c.stop.ensures.idle c.stop.ensures.moments
