@@ -27,7 +27,7 @@ use Rattle.db_script.specs.Lines.{Command, begin, commit, abort, show, get, set,
 use Rattle.db_script.specs.Replies.{is_placed, change_of, commits, owed_by, reply_of, session_after}
 use Rattle.db_script.specs.Scripts.{Reply, Progress, Ending, ends, unless_owed, do_command, do_line, goes_on, after_line, ending_of, joined, word_of, words_of, words_behind}
 use Rattle.db_script.specs.Steps.{asked, LineMoment, line_note, JoinsOutput, LineDone, EndsWhole, EndsAtLine, DoesOrEnds}
-use Rattle.db_script.specs.Course.{ScriptMoment, IsAt, IsLeft, LeavesNext, NextDone, NextEnds, EndsStated, DoesNext}
+use Rattle.db_script.specs.Course.{ScriptMoment, DrawsFew, IsAt, IsLeft, LeavesNext, NextDone, NextEnds, EndsStated, DoesNext}
 use Rattle.db_script.specs.Moments.{MayBeDone, CommitsNothing, IsFromAfter, LeavesLine}
 use Rattle.db_script.specs.Batch.{end_note, found_or_note}
 use Rattle.db_script.specs.Reading.{ScriptState, HandsOut, AnswersLine, to_come}
@@ -35,6 +35,7 @@ use Rattle.db_script.specs.declared.script.ScriptFault.{ScriptFault}
 use Rattle.db_script.specs.declared.script.ScriptFault.TheVariants.{TooLong, BadLine as IsBad, NoMemory, InputFault}
 use Rattle.rand_core.specs.Stream.{Stream, next_u32}
 use Rattle.db_script.proofs.LineLemmas.{no_lines}
+use Rattle.db_script.proofs.WayLemmas.{grows}
 use Rattle.db_script.proofs.StandLemmas.{commits_none, more_by, stands_line}
 use Rattle.db_script.proofs.MomentLemmas.{counts_then}
 use Rattle.db_script.proofs.StepLemmas.{failed_or_not}
@@ -252,11 +253,15 @@ left_here kind p e rest MayBe old c n leads opens within = record {
   within = omega (arith, within, length-append old.held []);
 }
 
+-- no word was drawn
+draws_none : (kind : DbKind) (p : Progress) (lines : List (List ℕ)) (start words : Stream) → words ≡ p.words → p.words ≡ words_after p.drawn start → DrawsFew (ending_of kind p lines).drawn start words
+draws_none kind p lines start words still drawn = record { count = p.drawn; drawn = still ∙ drawn; within = (grows kind p lines).drawn }
+
 -- what is gathered was printed in part
-pub ends_printing : {T E : Type 0} (kind : DbKind) (p : Progress) (old new : ScriptMoment) (left : List ℕ) (note : Note) (fault : E) → IsAt p old → IsFault note
+pub ends_printing : {T E : Type 0} (kind : DbKind) (p : Progress) (old new : ScriptMoment) (left : List ℕ) (note : Note) (fault : E) → IsAt p old → IsFault note → new.reads.words ≡ old.reads.words
     → LeavesBetween old.line.output.host.disk new.line.output.host.disk (OpensCommitted kind old.line.session) → Prints {T = T} [] old.line.output new.line.output (Err fault)
     → NextEnds kind p (ending_of kind p (lines_of (to_come old.reads.script left))) old new note
-ends_printing kind p old new left note fault at failed way prints = record {
+ends_printing kind p old new left note fault at failed still way prints = record {
   reached = p;
   rest = lines_of (to_come old.reads.script left);
   leads = refl;
@@ -277,6 +282,7 @@ ends_printing kind p old new left note fault at failed way prints = record {
     };
   };
   whole = λ sound. absurd (sound failed);
+  draws = λ start drawn. draws_none kind p (lines_of (to_come old.reads.script left)) start new.reads.words (still ∙ sym at.words) drawn;
   idle = λ _ sound. absurd (sound failed);
 }
 
@@ -397,6 +403,16 @@ module _ (kind : DbKind) (p : Progress) (old new : ScriptMoment) (mid : LineMome
         → KeepsCounts old.line.output.host.disk new.line.output.host.disk
     idle_next result leaves whole nothing = counts_then old.line.output.host.disk mid.output.host.disk new.line.output.host.disk still (leaves.idle whole nothing)
 
+  drawn_within : p.drawn + words_of command ≤ to_end.drawn
+  drawn_within = by (line_note kind mid.session (asked number word command)) refl
+    where
+      by : (o : Option Note) → line_note kind mid.session (asked number word command) ≡ o → p.drawn + words_of command ≤ to_end.drawn
+      by None none = omega (arith, (grows kind next rest).drawn, ap (λ (f : Ending). f.drawn) (leads_on none))
+      by (Some note) some = omega (arith, (ending_refused kind p script hands.line rest command note hands.is within hands.asks (noted_so ∙ some)).drawn)
+
+  words_next : (start : Stream) → p.words ≡ words_after p.drawn start → new.reads.words ≡ words_after (p.drawn + words_of command) start
+  words_next start drawn = words ∙ ap (words_behind command) (sym at.words) ∙ words_on command p.drawn p.words start drawn
+
   commits_so : length next.transactions ≡ 0 → commits mid.session.in_transaction command ≡ false
   commits_so none = ap (λ (s : DbState). commits s.in_transaction command) session ∙ commits_none kind p hands.line command none
 
@@ -438,6 +454,7 @@ module _ (kind : DbKind) (p : Progress) (old new : ScriptMoment) (mid : LineMome
         stated = stated (failed_or_not note);
         moments = leaves;
         whole = λ sound. whole_then old.line mid new.line same joins (end.whole sound);
+        draws = λ start drawn. record { count = p.drawn + words_of command; drawn = words_next start drawn; within = drawn_within };
         idle = idle;
       })
       (λ both. record {
@@ -451,6 +468,7 @@ module _ (kind : DbKind) (p : Progress) (old new : ScriptMoment) (mid : LineMome
         stated = stated (failed_or_not note);
         moments = leaves;
         whole = λ sound. whole_then old.line mid new.line same joins (end.whole sound);
+        draws = λ start drawn. record { count = p.drawn + words_of command; drawn = words_next start drawn; within = drawn_within };
         idle = idle;
       })
       end.prints
@@ -458,7 +476,7 @@ module _ (kind : DbKind) (p : Progress) (old new : ScriptMoment) (mid : LineMome
       met : (IsFault note → ⊥) → line_note kind mid.session (asked number word command) ≡ Some note → EndsStated p (ending_of kind p (lines_of script)) old new note
       met sound some =
           let here = ending_refused kind p script hands.line rest command note hands.is within hands.asks (noted_so ∙ some) in
-          record { ends = here.ends; done = here.done; whole = whole_then old.line mid new.line same joins (end.whole sound); words = λ start drawn. words ∙ ap (words_behind command) (sym at.words) ∙ words_on command p.drawn p.words start drawn ∙ ap (λ (k : ℕ). words_after k start) (sym here.drawn) }
+          record { ends = here.ends; done = here.done; whole = whole_then old.line mid new.line same joins (end.whole sound); words = λ start drawn. words_next start drawn ∙ ap (λ (k : ℕ). words_after k start) (sym here.drawn) }
 
       stated : IsFault note ⊎ (IsFault note → ⊥) → IsCutOff note ⊎ EndsStated p (ending_of kind p (lines_of script)) old new note
       stated (inl failed) = inl (inl failed)
@@ -520,6 +538,7 @@ ends_next said kind p old new mid t left now in_one note result answer at joins 
   stated = stated (failed_or_not result);
   moments = leaves;
   whole = λ sound. whole_then old.line mid new.line same joins (whole sound);
+  draws = λ start drawn. draws_none kind p (lines_of (to_come old.reads.script left)) start new.reads.words (still ∙ sym at.words) drawn;
   idle = λ in_place _. idle in_place;
 }
   where

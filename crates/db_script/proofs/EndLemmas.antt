@@ -9,13 +9,13 @@ use Rattle.db_core.specs.Sessions.{DbKind, DbState, aborted, at_rest}
 use Rattle.base_bytes.specs.OrderedMap.{Map}
 use Rattle.base_bytes.specs.Transactions.{after_first}
 use Rattle.base_notes.specs.declared.note.Note.TheVariants.{Memory}
-use Rattle.db_tool.specs.Doing.{IsStated, StandsAfter}
+use Rattle.db_tool.specs.Doing.{DoesTask, DrawsWords, IsStated, StandsAfter}
 use Rattle.db_tool.specs.Printing.{Printed, PrintsSome, PrintMoment}
 use Rattle.db_tool.specs.Tasks.{KeepsPrefix, words_after}
 use Rattle.db_tool.specs.ToolNotes.{IsFault, IsCutOff}
 use Rattle.db_tool.proofs.PrintLemmas.{printed_then, printed_none}
 use Rattle.rand_core.specs.Stream.{Stream}
-use Rattle.db_script.specs.Course.{ScriptMoment, script_over, to_read, IsLeft, NextDone, NextEnds, EndsStated, Leads, EndsAsStated, LeavesPrefixes, DrawsStated}
+use Rattle.db_script.specs.Course.{ScriptMoment, script_over, to_read, DrawsFew, IsLeft, NextDone, NextEnds, EndsStated, Leads, EndsAsStated, KeepsPrefixes}
 use Rattle.db_script.specs.Lines.{lines_of}
 use Rattle.db_script.specs.Moments.{KeepsFew}
 use Rattle.db_script.specs.Reading.{ScriptState, to_come}
@@ -149,7 +149,7 @@ leads_more kind e words start m n so none sm mn more = record {
 pub leaves_to_end : (kind : DbKind) (e : Ending) (words : Stream) (start : LineMoment) (m n : ScriptMoment) (note : Note) (so : Leads kind e words start m) → start.output.held ≡ []
     → GoesOn start.output.host.disk m.line.output.host.disk → GoesOn m.line.output.host.disk n.line.output.host.disk
     → NextEnds kind so.done (ending_of kind so.done (lines_of (to_come m.reads.script so.left))) m n note
-    → LeavesPrefixes kind (task_of_ending e) (record { session = start.session; host = start.output.host }) (record { session = n.line.session; host = n.line.output.host })
+    → KeepsPrefixes kind (task_of_ending e) (record { session = start.session; host = start.output.host }) (record { session = n.line.session; host = n.line.output.host })
 leaves_to_end kind e words start m n note so none sm mn end = each_then start.output.host.disk m.line.output.host.disk n.line.output.host.disk _ sm mn
     (record { each = λ c k left. let q = so.moments.each c k left in (q.0, omega (arith, q.1, end.moments.later), q.2.prefix) })
     (record {
@@ -241,9 +241,17 @@ module _ (kind : DbKind) (words : Stream) (script : List ℕ) (start : LineMomen
   }
 
 pub words_to_end : (kind : DbKind) (words : Stream) (script : List ℕ) (start : LineMoment) (m n : ScriptMoment) (note : Note) (so : Leads kind (ending_of kind (nothing_done start.session words) (lines_of script)) words start m)
-    → NextEnds kind so.done (ending_of kind so.done (lines_of (to_come m.reads.script so.left))) m n note → DrawsStated (script_task kind start.session words script) words n.reads.words note
-words_to_end kind words script start m n note so end =
-    ⊎_elim inl (λ is. inr (is.words words so.drawn ∙ ap (λ (f : Ending). words_after f.drawn words) so.leads)) end.stated
+    → NextEnds kind so.done (ending_of kind so.done (lines_of (to_come m.reads.script so.left))) m n note → DrawsWords (script_task kind start.session words script) words n.reads.words note
+words_to_end kind words script start m n note so end = ⊎_elim cut whole end.stated
+  where
+    few : DrawsFew (ending_of kind so.done (lines_of (to_come m.reads.script so.left))).drawn words n.reads.words
+    few = end.draws words so.drawn
+
+    cut : IsCutOff note → DrawsWords (script_task kind start.session words script) words n.reads.words note
+    cut is = record { count = few.count; drawn = few.drawn; within = omega (arith, few.within, ap (λ (f : Ending). f.drawn) so.leads); whole = inl is }
+
+    whole : EndsStated so.done (ending_of kind so.done (lines_of (to_come m.reads.script so.left))) m n note → DrawsWords (script_task kind start.session words script) words n.reads.words note
+    whole is = record { count = _; drawn = is.words words so.drawn ∙ ap (λ (f : Ending). words_after f.drawn words) so.leads; within = omega arith; whole = inr refl }
 
 -- nothing was done, as memory ran out
 pub nothing_stated : (kind : DbKind) (s : DbState) (words : Stream) (script : List ℕ) (h : HostMoment) (note : Note) → IsCutOff note
@@ -251,7 +259,7 @@ pub nothing_stated : (kind : DbKind) (s : DbState) (words : Stream) (script : Li
 nothing_stated kind s words script h note cut = record { stated = inl cut; prints = record { printed = []; unprinted = _; whole = refl; grew = printed_none h } }
 
 pub nothing_leaves : (kind : DbKind) (s : DbState) (words : Stream) (script : List ℕ) (h : HostMoment) → s.seen ≡ s.committed → IsMoment h.disk
-    → ((c : Image) → h.disk.leaves c → kind.opens c s.committed) → LeavesPrefixes kind (script_task kind s words script) (record { session = s; host = h }) (record { session = s; host = h })
+    → ((c : Image) → h.disk.leaves c → kind.opens c s.committed) → KeepsPrefixes kind (script_task kind s words script) (record { session = s; host = h }) (record { session = s; host = h })
 unfolding joined
 nothing_leaves kind s words script h same moment opens = record {
   each = λ c n left_now.
@@ -274,4 +282,20 @@ nothing_stands kind s words script h sound rest moment opens = record {
   no_more = record { each = λ c n left. record { count = 0; within = omega arith; holds = opens c (moment.now c n left).0 } };
   same = λ _. refl;
   idle = λ _ _. counts_none h.disk;
+}
+
+pub nothing_drawn : (kind : DbKind) (s : DbState) (words : Stream) (script : List ℕ) (note : Note) → IsCutOff note → DrawsWords (script_task kind s words script) words words note
+nothing_drawn kind s words script note cut = record { count = 0; drawn = refl; within = omega arith; whole = inl cut }
+
+pub nothing_done_of_task : (kind : DbKind) (s : DbState) (words : Stream) (script : List ℕ) (h : HostMoment) → s.is_broken ≡ false → aborted s ≡ s → IsMoment h.disk
+    → ((c : Image) → h.disk.leaves c → kind.opens c s.committed) → DoesTask kind (script_task kind s words script) (record { session = s; host = h }) (record { session = s; host = h }) Memory
+nothing_done_of_task kind s words script h sound rest moment opens = record {
+  each = nothing_leaves kind s words script h (ap (λ (t : DbState). t.seen) (sym rest)) moment opens;
+  stated = inl (inr refl);
+  prints = (nothing_stated kind s words script h Memory (inr refl)).prints;
+  stands = λ _. nothing_stands kind s words script h sound rest moment opens;
+  only_prints = λ is. absurd (cc is);
+  in_place = λ _. refl;
+  faults = record { rose = λ is. absurd (cc is); stood = λ _. refl };
+  device = λ device is. absurd (cc is);
 }

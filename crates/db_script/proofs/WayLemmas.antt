@@ -24,6 +24,7 @@ pub record Grows (p : Progress) (e : Ending) : Type 0 where
   pub spoken : AreSpoken more
   pub later : List Transaction
   pub transactions : e.done.transactions ≡ p.transactions ++ later
+  pub drawn : p.drawn ≤ e.drawn
 
 -- ---- one line
 
@@ -47,13 +48,14 @@ behind_one false first t later = refl
 grows_line : (kind : DbKind) (p : Progress) (line : List ℕ) (lines : List (List ℕ)) → ((q : Progress) → Grows q (ending_of kind q lines)) → Grows p (goes_on (λ q. ending_of kind q lines) (do_line kind p line))
 grows_line kind p line lines later = by_size (nat_lt SCRIPT_LIMIT (p.size + length line))
   where
-    here : (e : Ending) → e.done ≡ p → Grows p e
-    here e same = record {
+    here : (e : Ending) → e.done ≡ p → p.drawn ≤ e.drawn → Grows p e
+    here e same drawn = record {
       more = [];
       replies = ap (λ (q : Progress). q.replies) same ∙ sym (append-nil p.replies);
       spoken = tt;
       later = [];
       transactions = ap (λ (q : Progress). q.transactions) same ∙ sym (append-nil p.transactions);
+      drawn = drawn;
     }
 
     by_place : (command : Command) (b : Bool) (o : Option DbFault)
@@ -68,21 +70,22 @@ grows_line kind p line lines later = by_size (nat_lt SCRIPT_LIMIT (p.size + leng
           spoken = (reply_spoken p.session command, on.spoken);
           later = if closes then waiting_after p command ∷ on.later else on.later;
           transactions = on.transactions ∙ behind_one closes p.transactions (waiting_after p command) on.later;
+          drawn = omega (arith, on.drawn);
         }
-    by_place command true (Some fault) = here _ refl
-    by_place command false o = here _ refl
+    by_place command true (Some fault) = here _ refl (omega arith)
+    by_place command false o = here _ refl (omega arith)
 
     by_command : (o : Option Command) → Grows p (goes_on (λ q. ending_of kind q lines) (do_command kind p line o))
-    by_command None = here _ refl
+    by_command None = here _ refl (omega arith)
     by_command (Some command) = by_place command (is_placed p.session.in_transaction command) (owed_by kind p.session (change_of (word_of p) command))
 
     by_size : (b : Bool) → Grows p (goes_on (λ q. ending_of kind q lines) (if b then Err (ends p (Limit Script (SCRIPT_LIMIT + 1))) else do_command kind p line (read_line (before 10 line))))
-    by_size true = here _ refl
+    by_size true = here _ refl (omega arith)
     by_size false = by_command (read_line (before 10 line))
 
 pub grows : (kind : DbKind) (p : Progress) (lines : List (List ℕ)) → Grows p (ending_of kind p lines)
 unfolding ending_of
-grows kind p [] = record { more = []; replies = sym (append-nil p.replies); spoken = tt; later = []; transactions = sym (append-nil p.transactions) }
+grows kind p [] = record { more = []; replies = sym (append-nil p.replies); spoken = tt; later = []; transactions = sym (append-nil p.transactions); drawn = omega arith }
 grows kind p (line ∷ lines) = grows_line kind p line lines (λ q. grows kind q lines)
 
 -- ---- what is left on the way

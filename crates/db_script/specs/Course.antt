@@ -81,6 +81,12 @@ pub record EndsStated (p : Progress) (e : Ending) (old new : ScriptMoment) (note
   pub whole : EndsWhole old.line new.line
   pub words : (start : Stream) → p.words ≡ words_after p.drawn start → new.reads.words ≡ words_after e.drawn start
 
+-- so many random words were drawn at most
+pub record DrawsFew (most : ℕ) (old new : Stream) : Type 0 where
+  pub count : ℕ
+  pub drawn : new ≡ words_after count old
+  pub within : count ≤ most
+
 -- The script ended: as stated, or it was cut off, perhaps within the next line's reply.
 pub record NextEnds (kind : DbKind) (p : Progress) (e : Ending) (old new : ScriptMoment) (note : Note) : Type 0 where
   pub reached : Progress
@@ -92,6 +98,7 @@ pub record NextEnds (kind : DbKind) (p : Progress) (e : Ending) (old new : Scrip
   pub stated : IsCutOff note ⊎ EndsStated p e old new note
   pub moments : LeavesNext kind p e (λ _. IsFault note) old new
   pub whole : (IsFault note → ⊥) → EndsWhole old.line new.line
+  pub draws : (start : Stream) → p.words ≡ words_after p.drawn start → DrawsFew e.drawn start new.reads.words
   pub idle : kind.works_in_place ≡ false → (IsFault note → ⊥) → KeepsCounts old.line.output.host.disk new.line.output.host.disk
 
 abbrev pub DoesNext : DbKind → Progress → Ending → ScriptMoment → ScriptMoment → Option Note → Type 0
@@ -130,10 +137,6 @@ pub record EndsAsStated (task : Task) (old new : ToolMoment) (note : Note) : Typ
 
 -- At each moment a crash leaves the map after some first of the task's transactions, those acknowledged by what is printed
 -- then among them, and none in part.
-abbrev pub LeavesPrefixes : DbKind → Task → ToolMoment → ToolMoment → Type 0
-LeavesPrefixes kind task old new = LeavesOnly old.host.disk new.host.disk
+abbrev pub KeepsPrefixes : DbKind → Task → ToolMoment → ToolMoment → Type 0
+KeepsPrefixes kind task old new = LeavesOnly old.host.disk new.host.disk
     (λ c n. (old.host.disk.mark ≤ n) × (n ≤ new.host.disk.mark) × KeepsPrefix kind task old.session.committed (n - old.host.disk.mark) c)
-
--- its random words were drawn, unless it was cut off
-abbrev pub DrawsStated : Task → Stream → Stream → Note → Type 0
-DrawsStated task old new note = IsCutOff note ⊎ (new ≡ words_after task.words old)

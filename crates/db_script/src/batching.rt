@@ -19,8 +19,8 @@ ghost use Rattle.db_script.specs.Replies.{change_of};
 ghost use Rattle.db_script.specs.Moments.{LeavesLine};
 ghost use Rattle.db_script.specs.Steps.{DoesOne, DoesOrEnds, EndsWhole, asked, gathered};
 ghost use Rattle.db_tool.specs.Printing.{Prints, PrintsSome, holding};
-ghost use Rattle.db_script.specs.Course.{DrawsStated, EndsAsStated, GoesOnFrom, LeavesPrefixes, script_over, to_read};
-ghost use Rattle.db_tool.specs.Doing.{StandsAfter, during};
+ghost use Rattle.db_script.specs.Course.{EndsAsStated, GoesOnFrom, KeepsPrefixes, script_over, to_read};
+ghost use Rattle.db_tool.specs.Doing.{DoesTask, DrawsWords, StandsAfter, during};
 ghost use Rattle.db_tool.specs.ToolNotes.{Faults, IsFault};
 
 use crate::buffer::Found;
@@ -319,7 +319,7 @@ fn do_lines<H: Host, B: Db<H>, I: Source, R: Rng>(
         (during (H.state host.old) (H.streams host.old) (B.state db.old))
         (during (H.state host.new) (H.streams host.new) (B.state db.new)) result }
     ensures moments { (left : List ℕ) → (I.state input.old).left ≡ Some left
-        → LeavesPrefixes B.kind (script_task B.kind (B.state db.old) (R.stream rng.old) left)
+        → KeepsPrefixes B.kind (script_task B.kind (B.state db.old) (R.stream rng.old) left)
         (during (H.state host.old) (H.streams host.old) (B.state db.old))
         (during (H.state host.new) (H.streams host.new) (B.state db.new)) }
     ensures stands { (left : List ℕ) → (I.state input.old).left ≡ Some left → (IsFault result → ⊥)
@@ -327,7 +327,7 @@ fn do_lines<H: Host, B: Db<H>, I: Source, R: Rng>(
         (during (H.state host.old) (H.streams host.old) (B.state db.old))
         (during (H.state host.new) (H.streams host.new) (B.state db.new)) result }
     ensures words { (left : List ℕ) → (I.state input.old).left ≡ Some left
-        → DrawsStated (script_task B.kind (B.state db.old) (R.stream rng.old) left)
+        → DrawsWords (script_task B.kind (B.state db.old) (R.stream rng.old) left)
         (R.stream rng.old) (R.stream rng.new) result }
     ensures tied { B.tie db.new host.new }
     ensures rest { H.host_rest host.old host.new }
@@ -379,7 +379,7 @@ pub fn batch<H: Host, B: Db<H>, I: Source, R: Rng>(
     // Of a source that shows its bytes: at each moment, also within a write, a crash leaves the map after some first of
     // the stated transactions, those whose reply was printed by then among them, none in part.
     ensures moments { (left : List ℕ) → (I.state input.old).left ≡ Some left
-        → LeavesPrefixes B.kind (script_task B.kind (B.state db.old) (R.stream rng.old) left)
+        → KeepsPrefixes B.kind (script_task B.kind (B.state db.old) (R.stream rng.old) left)
         (during (H.state host.old) (H.streams host.old) (B.state db.old))
         (during (H.state host.new) (H.streams host.new) (B.state db.new)) }
 
@@ -390,13 +390,20 @@ pub fn batch<H: Host, B: Db<H>, I: Source, R: Rng>(
         (during (H.state host.old) (H.streams host.old) (B.state db.old))
         (during (H.state host.new) (H.streams host.new) (B.state db.new)) result.note }
     ensures words { (left : List ℕ) → (I.state input.old).left ≡ Some left
-        → DrawsStated (script_task B.kind (B.state db.old) (R.stream rng.old) left)
+        → DrawsWords (script_task B.kind (B.state db.old) (R.stream rng.old) left)
         (R.stream rng.old) (R.stream rng.new) result.note }
 
     // Of a source that shows its bytes: at an end without a fault of a device all of the transactions stand, or where memory
     // ran out some first of them, those whose reply was printed among them.
     ensures stands { (left : List ℕ) → (I.state input.old).left ≡ Some left → (IsFault result.note → ⊥)
         → StandsAfter B.kind (script_task B.kind (B.state db.old) (R.stream rng.old) left)
+        (during (H.state host.old) (H.streams host.old) (B.state db.old))
+        (during (H.state host.new) (H.streams host.new) (B.state db.new)) result.note }
+
+    // Where the source did not fail, that is its whole task.
+    ensures task { (left : List ℕ) → (I.state input.old).left ≡ Some left
+        → (result.note ≡ DeviceFault Input → ⊥)
+        → DoesTask B.kind (script_task B.kind (B.state db.old) (R.stream rng.old) left)
         (during (H.state host.old) (H.streams host.old) (B.state db.old))
         (during (H.state host.new) (H.streams host.new) (B.state db.new)) result.note }
 

@@ -54,4 +54,4 @@ returns-in-Err-clause-goes g c left shown p at =
     (gathered (g.B.Db.state c.args.db.now) (holding c.args.output.now (g.H.Disk.state c.args.host.now) (g.H.Host.streams c.args.host.now))) in
     let new : ScriptMoment = script_over (to_read (script_state c.args.script.now) (g.I.Source.state c.args.input.now).left (g.R.Rng.stream c.args.rng.now))
     (gathered (g.B.Db.state c.args.db.now) (holding c.make_way.new.output (g.H.Disk.state c.make_way.new.host) (g.H.Host.streams c.make_way.new.host))) in
-    ends_printing g.B.Db.kind p old new left _ _ at tt (between_prints _ _ _ (g.met.B.Db.tie_opens _ _ c.requires.sound c.requires.tied) c.in-Err.ensures.prints.disk) c.in-Err.ensures.prints
+    ends_printing g.B.Db.kind p old new left _ _ at tt refl (between_prints _ _ _ (g.met.B.Db.tie_opens _ _ c.requires.sound c.requires.tied) c.in-Err.ensures.prints.disk) c.in-Err.ensures.prints
