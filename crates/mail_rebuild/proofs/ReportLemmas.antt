@@ -129,5 +129,3 @@ pub gaps_more : (text : List ℕ) (from end : ℕ) (p : ℕ × IndexRecord) (pla
 gaps_more text from end p placed =
     append_assoc text (flat_map ignored_line (range_with_len from (p.0 - from))) (flat_map ignored_line (gaps (p.0 + 1) end placed))
     ∙ ap (λ t. text ++ t) (sym (flat_map-append ignored_line (range_with_len from (p.0 - from)) (gaps (p.0 + 1) end placed)))
-
--- ---- odd names

@@ -40,7 +40,7 @@ fn assert_names(rt: &impl Abort, found: &[Name], wanted: &str) {
 fn names_are_sorted_out(rt: HostRuntime) -> Result<(), Fail> {
     let mut spool = folder(rt.alloc()).ok().ok_or("no memory")?;
     let listing = list(rt.alloc(), &mut spool).ok().ok_or("listed")?;
-    assert_eq!(rt; listing.uids(), MESSAGES);
+    assert_eq!(rt; listing.uids(), MESSAGES.as_slice());
     assert_names(&rt, listing.odd(), ODD);
     Ok(())
 }
