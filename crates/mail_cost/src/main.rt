@@ -5,7 +5,7 @@
 use base_bytes::Text;
 use base_devices::{Name, Spool};
 use file_spool::FileSpool;
-use mail_scan::{list, scan};
+use mail_scan::{list, message_name, scan};
 use std::env;
 use std::io::{self, BufWriter, ErrorKind, Write};
 
@@ -39,11 +39,11 @@ fn main(rt: HostRuntime) -> io::Result<()> {
     let mut spool = FileSpool::new(&rt, folder);
     let listing = list(alloc, &mut spool).ok().ok_or(ErrorKind::Other)?;
     if words.next().is_none() {
-        for name in listing.messages() {
-            print_digest(&mut spool, name, &mut output)?;
+        for uid in listing.uids() {
+            print_digest(&mut spool, &message_name(*uid), &mut output)?;
         }
     }
-    let messages = listing.messages().len();
+    let messages = listing.uids().len();
     let odd = listing.odd().len();
     writeln!(output, "{messages} messages, {odd} odd names")?;
     output.flush()

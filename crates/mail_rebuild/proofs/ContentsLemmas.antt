@@ -18,7 +18,7 @@ use Rattle.base_devices.specs.SpoolCalls.{MessageFile, names_of}
 use Rattle.mail_rebuild.specs.Rebuilds.{AreContents, Contents}
 use Rattle.mail_rebuild.specs.Rebuilt.{SortsFiles, is_message, is_odd, uid_of_file}
 use Rattle.mail_rebuild.proofs.MergeLemmas.{RisesFrom, increasing_rises}
-use Rattle.mail_rebuild.proofs.UidLemmas.{same_text, text_same}
+use Rattle.mail_scan.proofs.NameLemmas.{same_text, text_same}
 
 -- an element stands in a list
 abbrev Among : {X : Type 0} → List X → X → Type 0

@@ -17,11 +17,11 @@ use Rattle.std.proofs.lemmas.Str.Parse.{digit_at}
 use Rattle.base_devices.specs.SpoolCalls.{HasDistinctNames, MessageFile, names_of}
 use Rattle.mail_scan.specs.Listing.{IsInOrder, IsOdd, Names, NamesMessage, SortsOut, is_message_name, is_passed_over, number_before_dot, uid_in}
 use Rattle.mail_scan.specs.Names.{IsMessageName}
+use Rattle.mail_scan.proofs.NameLemmas.{before_dot, both_true, same_text, tells_message, tells_no_other, text_same}
 use Rattle.mail_rebuild.specs.Findings.{file_named, message_named}
 use Rattle.mail_rebuild.specs.Rebuilt.{is_message, is_odd}
 use Rattle.mail_rebuild.proofs.MergeLemmas.{RisesFrom}
 use Rattle.mail_rebuild.proofs.PermutationLemmas.{IsPermutation-filter_map}
-use Rattle.mail_rebuild.proofs.UidLemmas.{before_dot, both_true, same_text, tells_message, tells_no_other, text_same}
 
 -- ---- names
 

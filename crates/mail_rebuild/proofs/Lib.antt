@@ -1,5 +1,4 @@
 mod MergeLemmas
-mod UidLemmas
 mod ReportLemmas
 mod PermutationLemmas
 mod FindingLemmas

@@ -47,7 +47,7 @@ use Rattle.mail_rebuild.proofs.FindingLemmas.{IsLookedUp, all_looked_up}
 use Rattle.mail_rebuild.proofs.FolderLemmas.{all_messages, all_odd, named_so, names_rise, odd_named}
 use Rattle.mail_rebuild.proofs.MergeLemmas.{RisesFrom, names_merged, records_merged, rises_increasing, rises_merged, together_merged, usable_of-rises}
 use Rattle.mail_rebuild.proofs.RebuiltLemmas.{dropped_is, fresh_is, kept_and_fresh, lines_are, messages_rise, no_fresh, records_are, uids_all, uids_rise}
-use Rattle.mail_rebuild.proofs.UidLemmas.{tells_message, text_same}
+use Rattle.mail_scan.proofs.NameLemmas.{tells_message, text_same}
 
 -- ---- what a folder gives
 
@@ -334,7 +334,7 @@ report_is options old now found made is =
     let lines : made.index.lines.items ≡ flat_map (line_of_uid (usable_in old) (messages_in found)) (filter_map uid_from found) =
     is.holds.lines ∙ sym (lines_are (messages_in found) (usable_in old) found (looked_up old now found made is)) in
     let kept : made.index.tally.kept ≡ length (messages_in found) - length (fresh old (messages_in found)) = omega (arith, counts.all, counts.fresh) in
-    rw (lines, kept, counts.fresh, counts.dropped) refl
+    simp (lines, kept, counts.fresh, counts.dropped)
 
 over : Image → IndexHeader → List IndexRecord → ℕ → ℕ → ℕ → IndexHeader
 over old h rs time number dropped = record (header_over h (usable_in old) rs time) {

@@ -6,12 +6,12 @@ use Rattle.std.proofs.lemmas.List.{append-nil}
 use Rattle.std.proofs.lemmas.List.Concat.{flat_map-cons}
 use Rattle.std.specs.Prelude.{◌<◌, ◌==◌, Bool, true, false, not, length, if◌then◌else◌}
 use Rattle.std.specs.List.{filter, list_any}
-use Rattle.std.proofs.Common.{map, sym, append_assoc}
+use Rattle.std.proofs.Common.{sym, append_assoc}
 use Rattle.std.proofs.lemmas.Bool.{eq-eqb, ne_eqb}
 use Rattle.index_form.specs.declared.record.IndexRecord.{IndexRecord}
 use Rattle.index_form.specs.Reading.{StoredRecord}
 use Rattle.index_form.specs.Usable.{is_usable, usable_from, usable_records}
-use Rattle.mail_rebuild.specs.Report.{ignored_in, ignored_line, odd_line}
+use Rattle.mail_rebuild.specs.Report.{ignored_in, ignored_line}
 
 range_more : (a n : ℕ) → range_with_len a (n + 1) ≡ range_with_len a n ++ (a + n) ∷ []
 range_more a zero = let e : a + 0 ≡ a = omega arith in rw e refl
@@ -129,10 +129,3 @@ pub gaps_more : (text : List ℕ) (from end : ℕ) (p : ℕ × IndexRecord) (pla
 gaps_more text from end p placed =
     append_assoc text (flat_map ignored_line (range_with_len from (p.0 - from))) (flat_map ignored_line (gaps (p.0 + 1) end placed))
     ∙ ap (λ t. text ++ t) (sym (flat_map-append ignored_line (range_with_len from (p.0 - from)) (gaps (p.0 + 1) end placed)))
-
--- ---- odd names
-
-pub odd_lines : {X : Type 0} (name : X → List ℕ) (xs : List X) → flat_map (λ x. odd_line (name x)) xs ≡ flat_map odd_line (map name xs)
-odd_lines name [] = refl
-odd_lines name (x ∷ xs) =
-    flat_map-cons (λ y. odd_line (name y)) x xs ∙ ap (λ t. odd_line (name x) ++ t) (odd_lines name xs) ∙ sym (flat_map-cons odd_line (name x) (map name xs))

@@ -1,8 +1,7 @@
 -- Names and records that are taken pair by pair.
 use Rattle.std.proofs.Common.{◌≡◌, ◌≤◌, ◌+◌, ℕ, zero, suc, Bool, true, false, List, [], ◌∷◌, ◌++◌, map, length, drop, Option, Some, None, refl, sym, ap, subst, ◌∙◌, arith, append_assoc}
-use Rattle.std.specs.Prelude.{nat_le, nat_lt, not, ◌*◌, ◌==◌, slice_index_or, if◌then◌else◌, ◌&&◌}
+use Rattle.std.specs.Prelude.{nat_le, nat_lt, not, ◌*◌, ◌==◌, if◌then◌else◌, ◌&&◌}
 use Rattle.std.specs.List.{AllByRecursion, cons_option, filter_map}
-use Rattle.std.specs.List.Sorted.{IsSortedBy}
 use Rattle.std.proofs.lemmas.Bool.{le-leb, leb-true}
 use Rattle.std.proofs.lemmas.Bool.Decides.{nat_tests}
 use Rattle.std.proofs.lemmas.List.Elements.{filter_map-append}
@@ -147,22 +146,6 @@ length-alone (r ∷ records) = omega (arith, length-alone records)
 pub length-merged : (names : List (List ℕ)) (records : List IndexRecord) → length (merged names records) ≤ length names + length records
 length-merged [] records = omega (arith, length-alone records)
 length-merged (name ∷ names) records = omega (arith, length-merged_behind name (length names) (merged names) (length-merged names) records)
-
--- ---- the order of odd names
-
-pub sorted_map : {X Y : Type 0} (f : X → Y) (lt : Y → Y → Bool) (xs : List X) → IsSortedBy (λ a b. lt (f a) (f b)) xs → IsSortedBy lt (map f xs)
-sorted_map f lt [] sorted k d low high = absurd (omega (arith, high))
-sorted_map f lt (x ∷ []) sorted k d low high = absurd (omega (arith, high))
-sorted_map f lt (x ∷ (y ∷ xs)) sorted zero d low high = sorted 0 x (omega arith) (omega arith)
-sorted_map {X} {Y} f lt (x ∷ (y ∷ xs)) sorted (suc k) d low high =
-    let next : suc k + 1 ≡ suc (k + 1) = omega arith in
-    rw next (sorted_map f lt (y ∷ xs) rest k d (omega arith) (omega (arith, high)))
-  where
-    rest : IsSortedBy (λ (a b : X). lt (f a) (f b)) (y ∷ xs)
-    rest j e l h =
-        let next : suc j + 1 ≡ suc (j + 1) = omega arith in
-        let step : lt (f (slice_index_or (x ∷ (y ∷ xs)) (suc j + 1) e)) (f (slice_index_or (x ∷ (y ∷ xs)) (suc j) e)) ≡ false = sorted (suc j) e (omega arith) (omega (arith, h)) in
-        rw next at step
 
 -- ---- how many usable records there are
 

@@ -8,6 +8,7 @@ use Rattle.index_form.specs.Reading.{records_of}
 use Rattle.index_form.specs.Usable.{usable_records}
 use Rattle.index_form.specs.Views.{file_of, record_of, usable_left}
 use Rattle.mail_scan.specs.Listing.{uid_in}
+use Rattle.mail_scan.specs.Names.{name_of}
 use Rattle.index_form.specs.declared.record_view.RecordView.{RecordView}
 use Rattle.index_form.specs.declared.usable.Usable.{Usable}
 use Rattle.mail_rebuild.specs.declared.merge.Merge.{Merge}
@@ -70,8 +71,8 @@ usable_of (Some view) = map (λ placed. placed.1) (usable_records (records_of (f
 
 -- what a pairing shows
 abbrev pub pair_of : Pairing → Pair
-pair_of (Both name old) = both name.now (record_of old)
-pair_of (File name) = name_alone name.now
+pair_of (Both uid old) = both (name_of uid) (record_of old)
+pair_of (File uid) = name_alone (name_of uid)
 pair_of (Old old) = record_alone (record_of old)
 
 -- the records that are still to come, the next of which was looked at
@@ -85,4 +86,4 @@ records_left (Some old) usable = record_of old ∷ records_behind usable
 
 -- the pairs that are still to come
 abbrev pub pairs_left : Merge → List Pair
-pairs_left merge = merged merge.names.now (records_left merge.item merge.behind)
+pairs_left merge = merged (map name_of merge.uids.now) (records_left merge.item merge.behind)

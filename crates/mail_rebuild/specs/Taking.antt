@@ -20,7 +20,7 @@ use Rattle.mail_rebuild.specs.NewIndex.{HoldsFindings}
 
 -- the odd names found so far
 abbrev pub odd_of : Made → List (List ℕ)
-odd_of made = map (λ name. name.now) made.odd.items
+odd_of made = made.odd.items
 
 -- a name of a message that a file of these has
 pub record NamesFile (files : List MessageFile) (name : List ℕ) : Type 0 where

@@ -3,18 +3,17 @@ ghost use Rattle.std.specs.Prelude.{◌≡◌, MatchOption, map, drop, [], ◌�
 ghost use Rattle.std.specs.List.Sorted.{IsStrictlyIncreasing};
 ghost use Rattle.mail_scan.specs.Listing.{uid_in};
 
-use base_devices::Name;
 use index_form::{IndexView, RecordView, Usable};
-use mail_scan::{Listing, uid_of_name};
+use mail_scan::Listing;
 use std::cmp::Ordering;
 
-/// A message name and the usable record of its uid, or one of them without the other.
+/// The uid of a message's name and the usable record of this uid, or one of them without the other.
 #[derive(Clone, Copy)]
 pub enum Pairing<'a> {
     /// A message, and the record of its uid.
-    Both { name: &'a Name, old: RecordView<'a> },
+    Both { uid: u32, old: RecordView<'a> },
     /// A message without a record.
-    File { name: &'a Name },
+    File { uid: u32 },
     /// A record without a message.
     Old { old: RecordView<'a> },
 }
@@ -22,7 +21,8 @@ pub enum Pairing<'a> {
 /// The message names of a folder and the usable records of an old index, by rising uid. It takes no memory.
 #[derive(Drop)]
 pub struct Merge<'a> {
-    names: &'a [Name],
+    // The uids of the names that are still to come.
+    uids: &'a [u32],
     // The next usable record, and those behind it.
     item: Option<RecordView<'a>>,
     behind: Option<Usable<'a>>,
@@ -40,7 +40,7 @@ impl<'a> Merge<'a> {
             IsMerge listing.now.messages (usable_of old.entry) (pairs_left result) }
     {
         let mut merge = Merge {
-            names: listing.messages(),
+            uids: listing.uids(),
             item: None,
             behind: old.map(|view| view.usable()),
         };
@@ -52,7 +52,7 @@ impl<'a> Merge<'a> {
     fn pass_record(&mut self)
         ensures records { records_left self.new.item self.new.behind
             ≡ records_behind self.old.behind }
-        ensures names { self.new.names.now ≡ self.old.names.now }
+        ensures uids { self.new.uids.now ≡ self.old.uids.now }
     {
         self.item = match &mut self.behind {
             Some(usable) => usable.next().map(|placed| placed.1),
@@ -62,7 +62,7 @@ impl<'a> Merge<'a> {
 
     // The next pair, where no name is left.
     fn next_record(&mut self) -> Option<Pairing<'a>>
-        requires { self.old.names.now ≡ [] }
+        requires { self.old.uids.now ≡ [] }
         ensures { YieldsFirstBy pair_of pairs_left self.old result self.new }
     {
         let old = self.item?;
@@ -70,24 +70,25 @@ impl<'a> Merge<'a> {
         Some(Pairing::Old { old })
     }
 
-    // The next pair, where this name is the next one.
-    fn next_with(&mut self, name: &'a Name, others: &'a [Name]) -> Pairing<'a>
-        requires { self.old.names.now ≡ name.now ∷ others.now }
+    // The next pair, where the name of this uid is the next one.
+    #[tactic(auto, using(mail_scan::proofs::NameLemmas::spelled_uid))]
+    fn next_with(&mut self, uid: u32, others: &'a [u32]) -> Pairing<'a>
+        requires { self.old.uids.now ≡ uid ∷ others.now }
         ensures { pairs_left self.old ≡ pair_of result ∷ pairs_left self.new }
     {
         let Some(old) = self.item else {
-            self.names = others;
-            return Pairing::File { name };
+            self.uids = others;
+            return Pairing::File { uid };
         };
-        match uid_of(name).cmp(&old.uid()) {
+        match uid.cmp(&old.uid()) {
             Ordering::Less => {
-                self.names = others;
-                Pairing::File { name }
+                self.uids = others;
+                Pairing::File { uid }
             }
             Ordering::Equal => {
-                self.names = others;
+                self.uids = others;
                 self.pass_record();
-                Pairing::Both { name, old }
+                Pairing::Both { uid, old }
             }
             Ordering::Greater => {
                 self.pass_record();
@@ -108,16 +109,9 @@ impl<'a> Iterator for Merge<'a> {
     ghost remaining = { item_count pairs_left };
 
     fn next(&mut self) -> Option<Pairing<'a>> {
-        match self.names.split_first() {
+        match self.uids.split_first() {
             None => self.next_record(),
-            Some((name, others)) => Some(self.next_with(name, others)),
+            Some((uid, others)) => Some(self.next_with(*uid, others)),
         }
     }
-}
-
-// The uid of a message's name, and 0 of any other.
-pub(crate) fn uid_of(name: &Name) -> u32
-    ensures { result ≡ uid_in name.now }
-{
-    uid_of_name(name.as_str()).unwrap_or(0)
 }

@@ -1,5 +1,6 @@
 // The new index, made message by message.
-ghost use Rattle.std.specs.Prelude.{◌≡◌, ◌<◌, ◌+◌, ◌==◌, ◌++◌, List, OnOk, Some, None, codes, decimal, if◌then◌else◌};
+ghost use Rattle.std.specs.Prelude.{◌≡◌, ◌<◌, ◌≤◌, ◌+◌, ◌==◌, ◌++◌, List, IfOk, OnOk, Some, None, codes, decimal, if◌then◌else◌};
+ghost use Rattle.base_bytes.specs.declared.limits.TheConstants.{FILES_LIMIT};
 ghost use Rattle.base_devices.specs.SpoolCalls.{MessageFile};
 ghost use Rattle.index_form.specs.declared.record.IndexRecord.{IndexRecord};
 ghost use Rattle.index_form.specs.Totals.{AreTotals, greatest_uid};
@@ -39,14 +40,26 @@ impl NewIndex {
     ghost use Rattle.std.specs.Option.{option_map};
     ghost use Rattle.mail_rebuild.specs.NewIndex.{AddsDropped, AddsFinding, AddsFresh, AddsKept, CountsOne, HasRoom, HoldsFindings, is_due, next_modseq};
 
-    pub(crate) fn new(alloc: Global, old: &IndexHeader, now: u64) -> NewIndex
-        ensures holds { HoldsFindings [] result }
-        ensures modseq { result.modseq ≡ min (old.now.highestmodseq + 1) 18446744073709551615 }
-        ensures time { result.time ≡ now }
-        ensures counts { (result.totals.num_records ≡ 0) × (result.tally.dropped ≡ 0) }
+    // Nothing yet, with room for this many records.
+    pub(crate) fn new(
+        alloc: Global,
+        count: usize,
+        old: &IndexHeader,
+        now: u64,
+    ) -> Result<NewIndex, NoMemory>
+        requires { count ≤ FILES_LIMIT }
+        ensures holds { IfOk result (λ made. HoldsFindings [] made) }
+        ensures modseq { IfOk result (λ made.
+            made.modseq ≡ min (old.now.highestmodseq + 1) 18446744073709551615) }
+        ensures time { IfOk result (λ made. made.time ≡ now) }
+        ensures counts { IfOk result (λ made.
+            (made.totals.num_records ≡ 0) × (made.tally.dropped ≡ 0)) }
     {
-        NewIndex {
-            records: Vec::new(alloc),
+        let Ok(records) = Vec::with_capacity(alloc, count * RECORD_SIZE) else {
+            return Err(NoMemory);
+        };
+        Ok(NewIndex {
+            records,
             totals: Totals::new(),
             tally: Tally {
                 kept: 0,
@@ -57,7 +70,7 @@ impl NewIndex {
             lines: Vec::new(alloc),
             modseq: old.highestmodseq.saturating_add(1),
             time: now,
-        }
+        })
     }
 
     // A message, with the record that it keeps.

@@ -52,7 +52,7 @@ fn list_folder<S: Spool>(alloc: Global, spool: &mut S) -> Result<Listing, Rebuil
 {
     match list(alloc, spool) {
         Ok(listing) => {
-            if listing.messages().len() as u64 > FILES_LIMIT {
+            if listing.uids().len() as u64 > FILES_LIMIT {
                 return Err(RebuildFault::TooMany);
             }
             Ok(listing)
@@ -68,13 +68,13 @@ fn conclude(
     alloc: Global,
     options: &Options,
     old: OldIndex<'_>,
-    made: Made<'_>,
+    made: Made,
 ) -> Result<Plan, RebuildFault>
     ensures planned { IfOk result (λ plan. (image : Image) (now : ℕ) (found : List Finding) →
-        IsOldIndex image old.entry → IsMadeOf image now found made.entry →
-        PlansFor options.now image now (contents_of found made.entry) plan) }
+        IsOldIndex image old.entry → IsMadeOf image now found made →
+        PlansFor options.now image now (contents_of found made) plan) }
     ensures limit { IfErr result (λ fault. (image : Image) (now : ℕ) (found : List Finding) →
-        IsOldIndex image old.entry → IsMadeOf image now found made.entry →
+        IsOldIndex image old.entry → IsMadeOf image now found made →
         IsPlanRefusal image (messages_in found) fault) }
     ensures refused { IfErr result IsLate }
 {
@@ -124,6 +124,6 @@ pub(crate) fn prepare<D: Disk, S: Spool>(
     let listing = list_folder(alloc, spool)?;
     let file = read_old(alloc, disk)?;
     let old = old_index(file.as_deref());
-    let made = take_all(alloc, spool, &listing, old, now)?;
+    let made = take_all(alloc, spool, listing, old, now)?;
     conclude(alloc, options, old, made)
 }

@@ -131,9 +131,9 @@ pub(crate) fn append_tally(text: &mut Vec<u8>, tally: Tally) -> Result<(), NoMem
 }
 
 // Adds a line for each odd name.
-pub(crate) fn append_odd(text: &mut Vec<u8>, odd: &[&Name]) -> Result<(), NoMemory>
+pub(crate) fn append_odd(text: &mut Vec<u8>, odd: &[Name]) -> Result<(), NoMemory>
     ensures { OnOk result (text.new.items
-        ≡ text.old.items ++ flat_map (λ name. odd_line name.now) odd.now) }
+        ≡ text.old.items ++ flat_map odd_line odd.now) }
 {
     for name in odd {
         append(text, b"odd ")?;
@@ -148,7 +148,7 @@ fn append_lines(
     text: &mut Vec<u8>,
     skip_odd: bool,
     old: OldIndex<'_>,
-    made: &Made<'_>,
+    made: &Made,
 ) -> Result<(), NoMemory>
     ensures { (image : Image) → IsOldIndex image old.entry →
         OnOk result (text.new.items ≡ text.old.items ++ lines_of skip_odd image made.now) }
@@ -167,7 +167,7 @@ pub(crate) fn report(
     alloc: Global,
     options: &Options,
     old: OldIndex<'_>,
-    made: &Made<'_>,
+    made: &Made,
 ) -> Result<Vec<u8>, NoMemory>
     ensures { (image : Image) → IsOldIndex image old.entry →
         IfOk result (λ text. text.items ≡ report_of options.now image made.now) }

@@ -3,4 +3,4 @@ mod FactLemmas
 mod FieldLemmas
 mod HeaderLemmas
 mod ListingLemmas
-mod NameLemmas
+pub mod NameLemmas

@@ -1,15 +1,16 @@
 -- Names that are sorted out one after another.
-use Rattle.std.proofs.Common.{◌≡◌, ℕ, ◌+◌, ◌≤◌, true, false, List, [], ◌∷◌, ◌++◌, Option, Some, None, length, take, refl, ap, subst, ◌∙◌, arith, append_assoc}
+use Rattle.std.proofs.Common.{◌≡◌, ℕ, ◌+◌, ◌<◌, ◌≤◌, true, false, List, [], ◌∷◌, ◌++◌, Option, Some, None, length, map, take, get_or, refl, sym, ap, subst, ◌∙◌, arith, append_assoc}
 use Rattle.std.specs.List.{slice_get}
-use Rattle.std.specs.Option.{MatchOption, is_some}
-use Rattle.std.specs.List.Sorted.{IsPermutation}
-use Rattle.std.proofs.lemmas.List.{take_more, take_all}
+use Rattle.std.specs.Prelude.{All}
+use Rattle.std.specs.List.Sorted.{IsNonDecreasing, IsNonDecreasingBy, IsPermutation}
+use Rattle.std.proofs.lemmas.List.{get_or-map, length-map, take_more, take_all}
 use Rattle.std.proofs.lemmas.List.Elements.{All-push}
 use Rattle.std.proofs.lemmas.List.Sorted.{IsPermutation-refl, IsPermutation-trans, IsPermutation-append, IsPermutation-append_left, IsPermutation-append_right, IsPermutation-to_front, All-permutation}
 use Rattle.std.proofs.lemmas.Option.{slice_get_within, get_or_from_slice_get}
 use Rattle.base_devices.specs.SpoolCalls.{MessageFile, Folder, SpoolState, GivesName, names_of}
-use Rattle.mail_scan.specs.Names.{IsMessageName}
-use Rattle.mail_scan.specs.Listing.{is_passed_over, NamesMessage, IsOdd, Names, SortsOut, ListsFolder, GaveTooMany}
+use Rattle.mail_scan.specs.Names.{IsMessageName, name_of}
+use Rattle.mail_scan.specs.Listing.{is_passed_over, NamesMessage, IsOdd, Names, SortsOut, ListsFolder, GaveTooMany, uid_in}
+use Rattle.mail_scan.proofs.NameLemmas.{spelled_uid}
 
 pub no_names : SortsOut [] (record { messages = []; odd = [] })
 no_names = record { passed_over = []; all = IsPermutation-refl []; messages = λ k d within. absurd (omega (arith, within)); odd = λ k d within. absurd (omega (arith, within)); own = λ k d within. absurd (omega (arith, within)) }
@@ -28,9 +29,9 @@ passes_over given name names is own =
     }
 
 -- a message
-pub takes_message : (given : List (List ℕ)) (name : List ℕ) (old new : Names) (uid : Option ℕ) → SortsOut given old → MatchOption uid ((n : ℕ) → IsMessageName name n → ⊥) (IsMessageName name) → true ≡ is_some uid → new.messages ≡ old.messages ++ name ∷ [] → new.odd ≡ old.odd → SortsOut (given ++ name ∷ []) new
-takes_message given name old new None is names some messages odd = absurd (cc)
-takes_message given name old new (Some uid) is names some messages odd =
+pub takes_message : (given : List (List ℕ)) (name : List ℕ) (old new : Names) (uid : ℕ) → SortsOut given old → IsMessageName name uid → new.messages ≡ old.messages ++ name_of uid ∷ [] → new.odd ≡ old.odd → SortsOut (given ++ name ∷ []) new
+takes_message given name old new uid is names spelled odd =
+    let messages : new.messages ≡ old.messages ++ name ∷ [] = spelled ∙ ap (λ n. old.messages ++ n ∷ []) (sym names.spelled) in
     let rest = old.odd ++ is.passed_over in
     let all = IsPermutation-append_left (name ∷ []) given _ is.all in
     let regroup : (old.messages ++ rest) ++ name ∷ [] ≡ old.messages ++ (rest ++ name ∷ []) = simp append_assoc in
@@ -45,9 +46,8 @@ takes_message given name old new (Some uid) is names some messages odd =
     }
 
 -- an odd name
-pub takes_odd : (given : List (List ℕ)) (name : List ℕ) (old new : Names) (uid : Option ℕ) → SortsOut given old → MatchOption uid ((n : ℕ) → IsMessageName name n → ⊥) (IsMessageName name) → false ≡ is_some uid → is_passed_over name ≡ false → new.messages ≡ old.messages → new.odd ≡ old.odd ++ name ∷ [] → SortsOut (given ++ name ∷ []) new
-takes_odd given name old new (Some uid) is none some own messages odd = absurd (cc)
-takes_odd given name old new None is none some own messages odd =
+pub takes_odd : (given : List (List ℕ)) (name : List ℕ) (old new : Names) → SortsOut given old → ((n : ℕ) → IsMessageName name n → ⊥) → is_passed_over name ≡ false → new.messages ≡ old.messages → new.odd ≡ old.odd ++ name ∷ [] → SortsOut (given ++ name ∷ []) new
+takes_odd given name old new is none own messages odd =
     let front = old.messages ++ old.odd in
     let all = IsPermutation-append_left (name ∷ []) given _ is.all in
     let regroup : (old.messages ++ (old.odd ++ is.passed_over)) ++ name ∷ [] ≡ front ++ (is.passed_over ++ name ∷ []) = simp append_assoc in
@@ -60,6 +60,19 @@ takes_odd given name old new None is none some own messages odd =
       odd = rw odd (All-push IsOdd old.odd name is.odd (record { no_message = none; own = own }));
       own = is.own;
     }
+
+-- names by the uids that they spell
+pub names_rise : (uids : List ℕ) → All (λ uid. uid ≤ 4294967295) uids → IsNonDecreasing uids → IsNonDecreasingBy uid_in (map name_of uids)
+names_rise uids short rises i j d low within =
+    let count = length-map uids name_of in
+    let below : j < length uids = omega (arith, count, within) in
+    rw (
+      get_or-map name_of uids i 0 d (omega (arith, low, below)),
+      get_or-map name_of uids j 0 d below,
+      spelled_uid (get_or uids i 0) (short i 0 (omega (arith, low, below))),
+      spelled_uid (get_or uids j 0) (short j 0 below),
+    )
+    (rises i j 0 low below)
 
 -- the order of names is another, the names are the same
 pub still_sorted_out : (given : List (List ℕ)) (old new : Names) → SortsOut given old → IsPermutation old.messages new.messages → IsPermutation old.odd new.odd → SortsOut given new

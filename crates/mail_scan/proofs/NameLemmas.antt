@@ -1,5 +1,5 @@
 -- Which names are those of messages.
-use Rattle.std.proofs.Common.{◌≡◌, ℕ, zero, suc, Bool, true, false, ◌&&◌, nat_le, unwrap_or, nat_eq, take, length-append, take_at, ◌-◌, ◌^◌, ◌<◌, ◌≤◌, List, [], ◌∷◌, ◌++◌, Result, Ok, Err, Option, Some, None, length, get_or, sym, ap, ◌∙◌, arith, refl}
+use Rattle.std.proofs.Common.{◌≡◌, ℕ, zero, suc, Bool, true, false, ◌&&◌, nat_le, unwrap_or, nat_eq, take, length-append, take_at, ◌-◌, ◌^◌, ◌<◌, ◌≤◌, List, [], ◌∷◌, ◌++◌, Result, Ok, Err, Option, Some, None, length, get_or, if◌then◌else◌, sym, ap, ◌∙◌, arith, refl}
 use Rattle.std.proofs.lemmas.List.{append_cancel_right}
 use Rattle.std.proofs.lemmas.Str.Parse.{IsNumeralModel, numerals_by_value, tells_digits, parse_plain}
 use Rattle.std.proofs.lemmas.Fmt.{decimal_is_IsNumeral, first_decimal, decimal_digit, decimal_nonempty, decimal-digits_value, parse-decimal, digits_value-decimal}
@@ -12,7 +12,7 @@ use Rattle.std.specs.Cmp.Lexicographic.{pointwise}
 use Rattle.std.proofs.lemmas.Bool.Decides.{nat_tests, Decides-eqb}
 use Rattle.std.proofs.lemmas.Grind.{common_steps}
 use Rattle.std.proofs.lemmas.Slice.Eq.{slice_eq-Decides}
-use Rattle.mail_scan.specs.Names.{IsMessageName}
+use Rattle.mail_scan.specs.Names.{IsMessageName, name_of}
 use Rattle.mail_scan.specs.Listing.{number_before_dot, is_message_name, uid_in}
 
 own : IsNumeralModel (AllDigits 10) (digits_value 10)
@@ -63,13 +63,16 @@ parsed {E} name digits (Err error) e first h = λ uid is.
     let read = parse-decimal 32 uid digits (Err error) (omega (arith, is.most)) (omega (arith, is.most)) (sym same) h in
     cc
 
--- what stands before the dot of a message's name
-before_dot : (name : List ℕ) (uid : ℕ) → IsMessageName name uid → number_before_dot name ≡ uid
-before_dot name uid is =
-    let small : uid < 2 ^ 64 = omega (arith, is.most) in
-    let size : length name - 1 ≡ length (decimal uid) = omega (arith, ap length is.spelled, length-append (decimal uid) (46 ∷ [])) in
-    let before : take (length name - 1) name ≡ decimal uid = rw size (ap (take (length (decimal uid))) is.spelled ∙ take_at (decimal uid) (46 ∷ []) (length (decimal uid)) refl) in
+-- what stands before the dot
+number_of_name : (uid : ℕ) → uid ≤ 4294967295 → number_before_dot (name_of uid) ≡ uid
+number_of_name uid most =
+    let small : uid < 2 ^ 64 = omega (arith, most) in
+    let size : length (name_of uid) - 1 ≡ length (decimal uid) = omega (arith, length-append (decimal uid) (46 ∷ [])) in
+    let before : take (length (name_of uid) - 1) (name_of uid) ≡ decimal uid = rw size (take_at (decimal uid) (46 ∷ []) (length (decimal uid)) refl) in
     ap (digits_value 10) before ∙ digits_value-decimal own uid small
+
+pub before_dot : (name : List ℕ) (uid : ℕ) → IsMessageName name uid → number_before_dot name ≡ uid
+before_dot name uid is = ap number_before_dot is.spelled ∙ number_of_name uid is.most
 
 -- two texts are the same where the test says so
 pub same_text : (a b : List ℕ) → pointwise nat_eq a b ≡ true → a ≡ b
@@ -78,13 +81,13 @@ same_text a b same = (slice_eq-Decides Decides-eqb a b (pointwise nat_eq a b) re
 pub text_same : (a b : List ℕ) → a ≡ b → pointwise nat_eq a b ≡ true
 text_same a b same = (slice_eq-Decides Decides-eqb a b (pointwise nat_eq a b) refl).1 same
 
-both_true : (a b : Bool) → (a && b) ≡ true → (a ≡ true) × (b ≡ true)
+pub both_true : (a b : Bool) → (a && b) ≡ true → (a ≡ true) × (b ≡ true)
 both_true true true h = (refl, refl)
 both_true true false h = absurd (cc)
 both_true false b h = absurd (cc)
 
 -- the test tells the names of messages
-tells_message : (name : List ℕ) (uid : ℕ) → IsMessageName name uid → is_message_name name ≡ true
+pub tells_message : (name : List ℕ) (uid : ℕ) → IsMessageName name uid → is_message_name name ≡ true
 tells_message name uid is =
     let number = before_dot name uid is in
     let spelled = text_same name (decimal uid ++ (46 ∷ [])) is.spelled in
@@ -92,7 +95,7 @@ tells_message name uid is =
     let most : uid ≤ 4294967295 = is.most in
     rw number (grind (arith, nat_tests, common_steps))
 
-tells_no_other : (name : List ℕ) → is_message_name name ≡ true → IsMessageName name (number_before_dot name)
+pub tells_no_other : (name : List ℕ) → is_message_name name ≡ true → IsMessageName name (number_before_dot name)
 tells_no_other name is =
     let parts = both_true (pointwise nat_eq name (decimal (number_before_dot name) ++ (46 ∷ [])) && nat_le 1 (number_before_dot name)) (nat_le (number_before_dot name) 4294967295) is in
     let first = both_true (pointwise nat_eq name (decimal (number_before_dot name) ++ (46 ∷ []))) (nat_le 1 (number_before_dot name)) parts.0 in
@@ -106,3 +109,14 @@ uid_is None name none =
       | false ↦ λ e. rw e refl
     ] refl
 uid_is (Some uid) name is = rw (tells_message name uid is) (sym (before_dot name uid is))
+
+-- the uid of the name that it spells
+pub spelled_uid : (uid : ℕ) → uid ≤ 4294967295 → uid_in (name_of uid) ≡ uid
+spelled_uid uid most = go uid refl (is_message_name (name_of uid)) refl
+  where
+    go : (n : ℕ) → n ≡ uid → (b : Bool) → is_message_name (name_of uid) ≡ b → (if b then number_before_dot (name_of uid) else 0) ≡ uid
+    go n same true is = number_of_name uid most
+    go zero same false is = same
+    go (suc n) same false is =
+        let tells = tells_message (name_of uid) uid (record { least = omega (arith, same); most = most; spelled = refl }) in
+        absurd (cc)

@@ -1,6 +1,6 @@
 //! What a mailbox folder holds: the names of its files, and the facts of each message.
 //! Read in this order:
-//!   names        the uid that a file's name stands for
+//!   names        the uid that a file's name stands for, and the name of a uid
 //!   listing      the names of a folder, sorted out; fault: why it may fail
 //!   dates        the seconds of a date as mail has it
 //!   header       where the header of a message ends, read in pieces
@@ -25,5 +25,5 @@ pub use dates::date_seconds;
 pub use facts::Scanned;
 pub use fault::ScanFault;
 pub use listing::{Listing, list};
-pub use names::uid_of_name;
+pub use names::{message_name, uid_of_name};
 pub use scanning::scan;

@@ -1,9 +1,9 @@
 // A folder is listed: its names are sorted out.
-ghost use Rattle.std.specs.Prelude.{◌≡◌, ◌≤◌, ◌++◌, [], ◌∷◌, ℕ, List, Some, Err, IfOk, IfErr, OnOk};
+ghost use Rattle.std.specs.Prelude.{◌≡◌, ◌≤◌, ◌++◌, [], ◌∷◌, ℕ, All, List, Some, Err, IfOk, IfErr, OnOk};
 ghost use Rattle.base_bytes.specs.declared.limits.TheConstants.{FILES_LIMIT};
 ghost use Rattle.base_devices.specs.Causes.{FaultHasCause};
 ghost use Rattle.base_devices.specs.SpoolCalls.{Folder, GaveNoName, shown_files};
-ghost use Rattle.mail_scan.specs.Listing.{SortsOut, IsInOrder, IsSpoolFault, GaveTooMany, ListsFolder, uid_in};
+ghost use Rattle.mail_scan.specs.Listing.{SortsOut, IsInOrder, IsSpoolFault, GaveTooMany, ListsFolder};
 
 use crate::{ScanFault, uid_of_name};
 use base_bytes::{FILES_LIMIT, compare_keys};
@@ -15,36 +15,42 @@ use std::marker::Model;
 const OWN_PREFIX: &[u8] = b"cyrus.";
 
 /// The names of a folder: those of messages by rising uid, and the odd ones by their bytes. Those that begin with
-/// `cyrus.` are passed over.
+/// `cyrus.` are passed over. Of a message's name its uid is kept, by which the name is spelled again.
 #[derive(Drop)]
 pub struct Listing {
-    messages: Vec<Name>,
+    uids: Vec<u32>,
     odd: Vec<Name>,
+    ghost short: { All (λ uid. uid ≤ 4294967295) uids.items },
 }
 
 impl Model for Listing {
+    ghost use Rattle.std.specs.Prelude.{map};
     ghost use Rattle.mail_scan.specs.Listing.{Names};
+    ghost use Rattle.mail_scan.specs.Names.{name_of};
 
     ghost Value = { Names };
 
-    ghost view = { λ l. record { messages = l.messages.items; odd = l.odd.items } };
+    ghost view = { λ l. record { messages = map name_of l.uids.items; odd = l.odd.items } };
 }
 
 impl Listing {
+    ghost use Rattle.std.specs.Prelude.{map};
+    ghost use Rattle.mail_scan.specs.Names.{name_of};
+
     fn new(alloc: Global) -> Listing
         ensures { result ≡ record { messages = []; odd = [] } }
     {
         Listing {
-            messages: Vec::new(alloc),
+            uids: Vec::new(alloc),
             odd: Vec::new(alloc),
         }
     }
 
-    /// The names of messages, by rising uid.
-    pub fn messages(&self) -> &[Name]
-        ensures { result.now ≡ self.now.messages }
+    /// The uids of messages, rising.
+    pub fn uids(&self) -> &[u32]
+        ensures { map name_of result.now ≡ self.now.messages }
     {
-        &self.messages
+        &self.uids
     }
 
     /// The odd names, by their bytes.
@@ -52,6 +58,14 @@ impl Listing {
         ensures { result.now ≡ self.now.odd }
     {
         &self.odd
+    }
+
+    /// The odd names, by their bytes, where the uids are not needed any more.
+    pub fn into_odd(self) -> Vec<Name>
+        ensures { result.items ≡ self.odd }
+    {
+        let Listing { uids: _, odd } = self;
+        odd
     }
 
     // Puts a name where it belongs.
@@ -63,44 +77,33 @@ impl Listing {
         if name.as_str().as_bytes().starts_with(OWN_PREFIX) {
             return Ok(());
         }
-        let pushed = if uid_of_name(name.as_str()).is_some() {
-            self.messages.push(name)
-        } else {
-            self.odd.push(name)
+        let is_pushed = match uid_of_name(name.as_str()) {
+            Some(uid) => self.uids.push(uid).is_ok(),
+            None => self.odd.push(name).is_ok(),
         };
-        match pushed {
-            Ok(()) => Ok(()),
-            Err(_) => Err(ScanFault::NoMemory),
+        if is_pushed {
+            Ok(())
+        } else {
+            Err(ScanFault::NoMemory)
         }
     }
 
-    // Puts both lists in order. The uid of each name is read once.
-    fn sort(&mut self) -> Result<(), ScanFault>
-        ensures order { OnOk result (IsInOrder self.new) }
-        ensures same { OnOk result ((given : List (List ℕ)) → SortsOut given self.old →
-            SortsOut given self.new) }
-        ensures refused { IfErr result (λ fault. fault ≡ ScanFault.NoMemory) }
+    // Puts both lists in order.
+    fn sort(&mut self)
+        ensures order { IsInOrder self.new }
+        ensures same { (given : List (List ℕ)) → SortsOut given self.old →
+            SortsOut given self.new }
     {
-        match self.messages.sort_by_cached_key(|name| sort_key(name)) {
-            Ok(()) => {
-                self.odd.sort_unstable_by(|a, b| compare_keys(
-                    a.as_str().as_bytes(),
-                    b.as_str().as_bytes(),
-                ));
-                Ok(())
-            }
-            Err(_) => Err(ScanFault::NoMemory),
-        }
+        self.uids.sort_unstable();
+        self.odd.sort_unstable_by(|a, b| compare_keys(
+            a.as_str().as_bytes(),
+            b.as_str().as_bytes(),
+        ));
     }
 }
 
-fn sort_key(name: &Name) -> u32
-    ensures { result ≡ uid_in name.now }
-{
-    uid_of_name(name.as_str()).unwrap_or(0)
-}
-
-/// Lists the folder of a spool. It takes 264 bytes for each name, and while it sorts 280 more for each message.
+/// Lists the folder of a spool. It takes 4 bytes for each message and 264 for each odd name, and at most twice as much
+/// besides while a list of them grows.
 pub fn list<S: Spool>(alloc: Global, spool: &mut S) -> Result<Listing, ScanFault>
     requires { GaveNoName (S.state spool.old) }
 
@@ -122,7 +125,7 @@ pub fn list<S: Spool>(alloc: Global, spool: &mut S) -> Result<Listing, ScanFault
 {
     let mut listing = Listing::new(alloc);
     gather(spool, &mut listing)?;
-    listing.sort()?;
+    listing.sort();
     Ok(listing)
 }
 

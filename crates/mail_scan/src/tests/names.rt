@@ -1,6 +1,6 @@
 // Names of message files.
 use crate::tests::row_parts;
-use crate::uid_of_name;
+use crate::{message_name, uid_of_name};
 use std::test::Fail;
 
 // Each row is `NAME => UID`.
@@ -30,6 +30,9 @@ fn uids_of_names(rt: HostRuntime) -> Result<(), Fail> {
             return Err("a row without a uid".into());
         };
         assert_eq!(rt; uid_of_name(name), uid, "{name}");
+        if let Some(uid) = uid {
+            assert_eq!(rt; message_name(uid).as_str(), name);
+        }
     }
     Ok(())
 }
