@@ -1,6 +1,6 @@
 // Conversions: the new file, what is said, and that the old file stays.
 use super::files::{CIRCLE, DELETED, EMPTY, ONE_PAIR, TORN};
-use super::runs::{ROOM, host_of, words_of};
+use super::runs::{host_of, words_of};
 use cyr_top::run;
 use mem_devices::{MemDisk, MemHost};
 use mem_spool::MemSpool;
@@ -8,6 +8,9 @@ use rand_pcg::Pcg32;
 use std::alloc::Global;
 use std::process::Abort;
 use std::test::Fail;
+
+// More than a conversion here writes.
+const ROOM: u64 = 200_000;
 
 // The words behind the tool's name, both files before, which of their calls fail, and what must come of it.
 #[derive(Clone, Copy)]
