@@ -1,5 +1,6 @@
 pub mod ActLemmas
 pub mod CheckLemmas
+pub mod ConvertLemmas
 pub mod CrashLemmas
 pub mod GetLemmas
 pub mod JobLemmas

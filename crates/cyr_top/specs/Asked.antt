@@ -1,15 +1,20 @@
--- What a command line asks of a database, and which jobs are built. What it asks of a folder stands in Rebuilding.
+-- What a command line asks of a database, and which jobs are built. What it asks of a folder stands in Rebuilding, and of two
+-- files in Converting.
 use Rattle.std.specs.Prelude.{◌≡◌, Bool, true, false, List, ℕ, Option, None, Some, option_and_then, if◌then◌else◌}
 use Rattle.base_notes.specs.declared.action.Action.{Action}
 use Rattle.base_notes.specs.declared.action.Action.TheVariants.{Consistent, Show, Get, Set, Delete}
+use Rattle.base_notes.specs.declared.action.Backend.{Backend}
 use Rattle.base_notes.specs.declared.action.Backend.TheVariants.{Flat, Twoskip}
 use Rattle.db_core.specs.Sessions.{DbKind, DbState}
+use Rattle.db_fill.specs.Filling.{FillKind}
 use Rattle.db_tool.specs.Tasks.{Given, Task, task_of}
+use Rattle.flat_db.specs.Filling.{flat_fill}
 use Rattle.flat_db.specs.Sessions.{flat_kind}
 use Rattle.skip_kind.specs.Kind.{skip_kind}
 use Rattle.tool_words.specs.JobOf.{job_of}
 use Rattle.tool_words.specs.declared.jobs.Job.{Job}
-use Rattle.tool_words.specs.declared.jobs.Job.TheVariants.{Dbtool, Reconstruct}
+use Rattle.tool_words.specs.declared.jobs.Job.TheVariants.{Convert, Dbtool, Reconstruct}
+use Rattle.twoskip.specs.Filling.{skip_fill}
 
 -- An action over a database of some kind, which is made where it is absent if `make` says so.
 pub record Asked : Type 1 where
@@ -25,6 +30,16 @@ asking kind make action given = record { kind = kind; make = make; action = acti
 abbrev pub task_for : Asked → DbState → Task
 task_for asked s = task_of asked.kind s asked.given asked.action
 
+-- ---- backends: this is the one place that chooses the kind of a file
+
+abbrev pub kind_of : Backend → DbKind
+kind_of Flat = flat_kind
+kind_of Twoskip = skip_kind
+
+abbrev pub fill_of : Backend → FillKind
+fill_of Flat = flat_fill
+fill_of Twoskip = skip_fill
+
 -- ---- the jobs that are built, in one place: all others end with `usage` as wrong words do
 
 abbrev pub is_done : Action → Bool
@@ -37,6 +52,7 @@ is_done action = false
 
 abbrev pub is_built : Job → Bool
 is_built (Dbtool make file backend action) = is_done action
+is_built (Convert from from_kind to to_kind) = true
 is_built (Reconstruct options folder) = true
 is_built job = false
 
@@ -47,10 +63,9 @@ if_built job = if is_built job then Some job else None
 abbrev pub built_job_of : List (List ℕ) → Option Job
 built_job_of words = option_and_then if_built (job_of words)
 
--- What holds of a job over a database, by the kind of its backend. This is the one place that chooses the kind.
+-- P holds of a job over one database, by the kind of its backend
 abbrev pub OnDatabase : Given → (Asked → Type 0) → Job → Type 0
-OnDatabase given P (Dbtool make file Flat action) = P (asking flat_kind make action given)
-OnDatabase given P (Dbtool make file Twoskip action) = P (asking skip_kind make action given)
+OnDatabase given P (Dbtool make file backend action) = P (asking (kind_of backend) make action given)
 OnDatabase given P job = Unit {0}
 
 -- P holds of what the words ask of a database

@@ -1,5 +1,6 @@
 pub mod Actions
 pub mod Asked
+pub mod Converting
 pub mod Crashes
 pub mod Rebuilding
 pub mod Stated

@@ -17,6 +17,7 @@ use Rattle.db_core.specs.declared.opening.OpenFault.{OpenFault}
 use Rattle.db_core.specs.declared.opening.OpenFault.TheVariants.{Absent as NoFile, NoMemory as NoRoom, DiskFault as NoDisk, Damaged as Flawed}
 use Rattle.db_tool.specs.ToolNotes.{Faults, opening_note}
 use Rattle.cyr_top.specs.Asked.{Asked, task_for}
+use Rattle.cyr_top.specs.Converting.{IsConversionNote}
 use Rattle.cyr_top.specs.Rebuilding.{IsRebuildNote}
 
 -- ---- what the main file stands for
@@ -72,9 +73,9 @@ IsBuilt note = ⊥
 
 -- ---- what every run keeps
 
--- the note of a built action or of a rebuild, and the host failed exactly where it says so
+-- the note of a built action, of a conversion or of a rebuild, and the host failed exactly where it says so
 pub record Ran (note : Note) (old new : DiskState) : Type 0 where
-  pub built : IsBuilt note ⊎ IsRebuildNote note
+  pub built : IsBuilt note ⊎ IsConversionNote note ⊎ IsRebuildNote note
   pub faults : Faults Host note old.faults new.faults
 
 -- standard error gets the note's text, or the host ceases to show what it got

@@ -5,16 +5,20 @@
 //!   acting     an action over a file: made, checked, or opened and done
 //!   getting    the same by what a backend is best at: one value is looked for in flat text, and no map is made
 //!   checking   the line that a check prints
+//!   converting a database becomes a new file of the other kind
+//!   rebuilding the index of a folder is rebuilt
 //! What a run owes stands in specs/: Asked (what the words ask), Stated (note and output), Actions (what is left),
-//! Crashes (the promises in words of maps and transactions).
+//! Crashes (the promises in words of maps and transactions), Converting and Rebuilding.
 #![tactic(auto)]
 
 mod acting;
 mod checking;
+mod converting;
 mod files;
 mod getting;
 mod rebuilding;
 mod running;
 
+pub use converting::convert;
 pub use running::{run, run_job};
 pub use tool_words::{Job, Paths, WordFault, job, paths};

@@ -5,10 +5,11 @@ ghost use Rattle.base_devices.specs.Frames.{SameDisk};
 ghost use Rattle.base_devices.specs.HostCalls.{moment, told_with};
 ghost use Rattle.base_devices.specs.SpoolCalls.{GaveNoName, shown_files};
 ghost use Rattle.base_notes.specs.Notes.{status_of};
-ghost use Rattle.base_notes.specs.declared.note.Device.TheVariants.{Spool as SpoolDevice};
+ghost use Rattle.base_notes.specs.declared.note.Device.TheVariants.{Second as SecondDevice, Spool as SpoolDevice};
 ghost use Rattle.base_notes.specs.declared.note.Note.{Note};
 ghost use Rattle.cyr_top.specs.Actions.{DoesAction, DrawsFor, but_warned};
 ghost use Rattle.cyr_top.specs.Asked.{WhereAsked, OnDatabase, built_job_of, is_built, is_done};
+ghost use Rattle.cyr_top.specs.Converting.{DoesConversion, OnConversion, WhereConverting, with_both};
 ghost use Rattle.cyr_top.specs.Crashes.{StartsAt, LeavesPrefixes, LeavesAtEnd, KeepsPromises};
 ghost use Rattle.cyr_top.specs.Rebuilding.{DoesRebuild, OnFolder, WhereRebuilding, rebuild_of};
 ghost use Rattle.cyr_top.specs.Stated.{StatedResult, Ran, Warns, SamePrints};
@@ -17,9 +18,10 @@ ghost use Rattle.db_tool.specs.Tasks.{given};
 ghost use Rattle.db_tool.specs.ToolNotes.{Faults, IsFault, IsCutOff};
 
 use crate::acting::on_files;
+use crate::converting::convert;
 use crate::files::{FlatFiles, TwoskipFiles};
 use crate::rebuilding::reconstruct;
-use base_devices::{Host, Spool};
+use base_devices::{Disk, Host, Spool};
 use base_notes::{Action, Backend, Note, Outcome};
 use flat_db::FlatDb;
 use rand_core::Rng;
@@ -42,10 +44,11 @@ fn can_do(action: &Action) -> bool
 }
 
 // Does a job, where it is built: here the backend is chosen.
-fn do_job<H: Host, S: Spool, R: Rng>(
+fn do_job<H: Host, D: Disk, S: Spool, R: Rng>(
     alloc: Global,
     job: &Job,
     host: &mut H,
+    second: &mut D,
     spool: &mut S,
     now: u64,
     rng: &mut R,
@@ -58,19 +61,29 @@ fn do_job<H: Host, S: Spool, R: Rng>(
         (λ asked. DrawsFor asked (H.state host.old) (R.stream rng.old) (R.stream rng.new) result)
         job.now }
     ensures unread { is_built job.now ≡ true → OnDatabase (given (R.stream rng.old) [])
-        (λ _. spool.new ≡ spool.old) job.now }
+        (λ _. (spool.new ≡ spool.old) × (second.new ≡ second.old)) job.now }
     ensures rebuilds { OnFolder (λ options. DoesRebuild (rebuild_of (S.state spool.old) now options)
         (moment (H.state host.old) (H.streams host.old))
         (moment (H.state host.new) (H.streams host.new)) result) job.now }
-    ensures undrawn { OnFolder (λ _. R.stream rng.new ≡ R.stream rng.old) job.now }
+    ensures undrawn { OnFolder (λ _. (R.stream rng.new ≡ R.stream rng.old)
+        × (second.new ≡ second.old)) job.now }
+    ensures converts { OnConversion (λ asked. DoesConversion asked
+        (with_both (H.state host.old) (D.state second.old) (R.stream rng.old))
+        (with_both (H.state host.new) (D.state second.new) (R.stream rng.new)) result) job.now }
+    ensures silent { OnConversion (λ _. (H.streams host.new ≡ H.streams host.old)
+        × (spool.new ≡ spool.old)) job.now }
     ensures ran { Ran result (H.state host.old) (H.state host.new) }
+    ensures second_faults { Faults SecondDevice result (D.state second.old).faults
+        (D.state second.new).faults }
     ensures spool_faults { Faults SpoolDevice result (S.state spool.old).faults
         (S.state spool.new).faults }
     ensures usage { is_built job.now ≡ false → (result ≡ Note.Usage) × (host.new ≡ host.old)
-        × (spool.new ≡ spool.old) × (R.stream rng.new ≡ R.stream rng.old) }
+        × (second.new ≡ second.old) × (spool.new ≡ spool.old)
+        × (R.stream rng.new ≡ R.stream rng.old) }
     ensures warned { (H.streams host.new).warned ≡ (H.streams host.old).warned }
     ensures files { shown_files (S.state spool.new) ≡ shown_files (S.state spool.old) }
     ensures rest { H.host_rest host.old host.new }
+    ensures second_rest { D.disk_rest second.old second.new }
     ensures spool_rest { S.spool_rest spool.old spool.new }
 {
     match job {
@@ -90,16 +103,22 @@ fn do_job<H: Host, S: Spool, R: Rng>(
         } if can_do(action) => {
             on_files::<H, Twoskip, TwoskipFiles, R>(alloc, *make, action, host, rng)
         }
+        Job::Convert {
+            from_kind,
+            to_kind,
+            ..
+        } => convert(alloc, host, *from_kind, second, *to_kind, rng).note,
         Job::Reconstruct { options, .. } => reconstruct(alloc, options, host, spool, now),
         _ => Note::Usage,
     }
 }
 
 // Does what the words ask for.
-fn do_words<H: Host, S: Spool, R: Rng>(
+fn do_words<H: Host, D: Disk, S: Spool, R: Rng>(
     alloc: Global,
     words: &[String],
     host: &mut H,
+    second: &mut D,
     spool: &mut S,
     now: u64,
     rng: &mut R,
@@ -111,27 +130,36 @@ fn do_words<H: Host, S: Spool, R: Rng>(
     ensures draws { WhereAsked (map string_bytes words.now) (given (R.stream rng.old) [])
         (λ asked. DrawsFor asked (H.state host.old) (R.stream rng.old) (R.stream rng.new) result) }
     ensures unread { WhereAsked (map string_bytes words.now) (given (R.stream rng.old) [])
-        (λ _. spool.new ≡ spool.old) }
+        (λ _. (spool.new ≡ spool.old) × (second.new ≡ second.old)) }
     ensures rebuilds { WhereRebuilding (map string_bytes words.now)
         (λ options. DoesRebuild (rebuild_of (S.state spool.old) now options)
         (moment (H.state host.old) (H.streams host.old))
         (moment (H.state host.new) (H.streams host.new)) result) }
     ensures undrawn { WhereRebuilding (map string_bytes words.now)
-        (λ _. R.stream rng.new ≡ R.stream rng.old) }
+        (λ _. (R.stream rng.new ≡ R.stream rng.old) × (second.new ≡ second.old)) }
+    ensures converts { WhereConverting (map string_bytes words.now) (λ asked. DoesConversion asked
+        (with_both (H.state host.old) (D.state second.old) (R.stream rng.old))
+        (with_both (H.state host.new) (D.state second.new) (R.stream rng.new)) result) }
+    ensures silent { WhereConverting (map string_bytes words.now)
+        (λ _. (H.streams host.new ≡ H.streams host.old) × (spool.new ≡ spool.old)) }
     ensures ran { Ran result (H.state host.old) (H.state host.new) }
+    ensures second_faults { Faults SecondDevice result (D.state second.old).faults
+        (D.state second.new).faults }
     ensures spool_faults { Faults SpoolDevice result (S.state spool.old).faults
         (S.state spool.new).faults }
     ensures usage { result ≡ Note.Usage → built_job_of (map string_bytes words.now) ≡ None }
     ensures none { built_job_of (map string_bytes words.now) ≡ None
         → ((result ≡ Note.Usage) ⊎ (result ≡ Note.Memory)) × (host.new ≡ host.old)
-        × (spool.new ≡ spool.old) × (R.stream rng.new ≡ R.stream rng.old) }
+        × (second.new ≡ second.old) × (spool.new ≡ spool.old)
+        × (R.stream rng.new ≡ R.stream rng.old) }
     ensures warned { (H.streams host.new).warned ≡ (H.streams host.old).warned }
     ensures files { shown_files (S.state spool.new) ≡ shown_files (S.state spool.old) }
     ensures rest { H.host_rest host.old host.new }
+    ensures second_rest { D.disk_rest second.old second.new }
     ensures spool_rest { S.spool_rest spool.old spool.new }
 {
     match job(alloc, words) {
-        Ok(job) => do_job(alloc, &job, host, spool, now, rng),
+        Ok(job) => do_job(alloc, &job, host, second, spool, now, rng),
         Err(WordFault::Usage) => Note::Usage,
         Err(WordFault::NoMemory) => Note::Memory,
     }
@@ -155,10 +183,11 @@ fn end_run<H: Host>(host: &mut H, note: Note) -> Outcome
 }
 
 /// Does a job that was read from the words before, as `run` does, and ends with its note and status.
-pub fn run_job<H: Host, S: Spool, R: Rng>(
+pub fn run_job<H: Host, D: Disk, S: Spool, R: Rng>(
     alloc: Global,
     job: &Job,
     host: &mut H,
+    second: &mut D,
     spool: &mut S,
     now: u64,
     rng: &mut R,
@@ -175,32 +204,42 @@ pub fn run_job<H: Host, S: Spool, R: Rng>(
         (moment (H.state host.old) (H.streams host.old))
         (but_warned (H.state host.new) (H.streams host.old) (H.streams host.new)) result.note)
         job.now }
+    ensures converts { OnConversion (λ asked. DoesConversion asked
+        (with_both (H.state host.old) (D.state second.old) (R.stream rng.old))
+        (with_both (H.state host.new) (D.state second.new) (R.stream rng.new)) result.note)
+        job.now }
+    ensures silent { OnConversion (λ _. SamePrints (H.streams host.old) (H.streams host.new)
+        × (spool.new ≡ spool.old)) job.now }
     ensures usage { is_built job.now ≡ false → (result.note ≡ Note.Usage)
         × SameDisk (H.state host.old) (H.state host.new)
         × SamePrints (H.streams host.old) (H.streams host.new) }
 
     ensures status { result.status ≡ status_of result.note }
     ensures ran { Ran result.note (H.state host.old) (H.state host.new) }
+    ensures second_faults { Faults SecondDevice result.note (D.state second.old).faults
+        (D.state second.new).faults }
     ensures spool_faults { Faults SpoolDevice result.note (S.state spool.old).faults
         (S.state spool.new).faults }
     ensures warned { Warns result.note (H.streams host.old) (H.streams host.new) }
     ensures files { shown_files (S.state spool.new) ≡ shown_files (S.state spool.old) }
     ensures rest { H.host_rest host.old host.new }
+    ensures second_rest { D.disk_rest second.old second.new }
     ensures spool_rest { S.spool_rest spool.old spool.new }
 {
-    let note = do_job(alloc, job, host, spool, now, rng);
+    let note = do_job(alloc, job, host, second, spool, now, rng);
     end_run(host, note)
 }
 
 /// Does all that the program does: what the words ask for, over the host's files and streams.
 ///
 /// `words` are the command line without the program's own name. The note's text goes to standard error. Words that
-/// stand for no job that is built end with `usage`. The spool is the folder that a rebuild reads, and `now` its time in
-/// seconds since 1970. `docs/guarantees.md` says what each clause means for a file.
-pub fn run<H: Host, S: Spool, R: Rng>(
+/// stand for no job that is built end with `usage`. `second` is the new file of a conversion, the spool the folder that a
+/// rebuild reads, and `now` its time in seconds since 1970. `docs/guarantees.md` says what each clause means for a file.
+pub fn run<H: Host, D: Disk, S: Spool, R: Rng>(
     alloc: Global,
     words: &[String],
     host: &mut H,
+    second: &mut D,
     spool: &mut S,
     now: u64,
     rng: &mut R,
@@ -233,7 +272,7 @@ pub fn run<H: Host, S: Spool, R: Rng>(
         (λ asked. DrawsFor asked (H.state host.old) (R.stream rng.old) (R.stream rng.new)
         result.note) }
     ensures unread { WhereAsked (map string_bytes words.now) (given (R.stream rng.old) [])
-        (λ _. spool.new ≡ spool.old) }
+        (λ _. (spool.new ≡ spool.old) × (second.new ≡ second.old)) }
 
     // A rebuild that ends with `Done` printed the stated report and left the stated index; wherever it stops, the index
     // is one that could be left before, or the whole new one. It draws no random words, and no run changes a message.
@@ -242,27 +281,38 @@ pub fn run<H: Host, S: Spool, R: Rng>(
         (moment (H.state host.old) (H.streams host.old))
         (but_warned (H.state host.new) (H.streams host.old) (H.streams host.new)) result.note) }
     ensures undrawn { WhereRebuilding (map string_bytes words.now)
-        (λ _. R.stream rng.new ≡ R.stream rng.old) }
+        (λ _. (R.stream rng.new ≡ R.stream rng.old) × (second.new ≡ second.old)) }
     ensures files { shown_files (S.state spool.new) ≡ shown_files (S.state spool.old) }
+
+    // A conversion that ends with `Done` left the old file's map in the new one; wherever it stops, the new file is one
+    // that could be left before, or the whole one, and the old one opens to its map. It prints nothing.
+    ensures converts { WhereConverting (map string_bytes words.now) (λ asked. DoesConversion asked
+        (with_both (H.state host.old) (D.state second.old) (R.stream rng.old))
+        (with_both (H.state host.new) (D.state second.new) (R.stream rng.new)) result.note) }
+    ensures silent { WhereConverting (map string_bytes words.now)
+        (λ _. SamePrints (H.streams host.old) (H.streams host.new) × (spool.new ≡ spool.old)) }
 
     // The words give no job that is built: then the run answers so, and changes nothing but standard error.
     ensures usage { result.note ≡ Note.Usage → built_job_of (map string_bytes words.now) ≡ None }
     ensures none { built_job_of (map string_bytes words.now) ≡ None
         → ((result.note ≡ Note.Usage) ⊎ (result.note ≡ Note.Memory))
         × SameDisk (H.state host.old) (H.state host.new)
-        × SamePrints (H.streams host.old) (H.streams host.new)
+        × SamePrints (H.streams host.old) (H.streams host.new) × (second.new ≡ second.old)
         × (spool.new ≡ spool.old) × (R.stream rng.new ≡ R.stream rng.old) }
 
     // A device fault is answered exactly where the count of that device rose, by one; there are no other notes than these;
     // the status is that of the note, and standard error gets its text.
     ensures status { result.status ≡ status_of result.note }
     ensures ran { Ran result.note (H.state host.old) (H.state host.new) }
+    ensures second_faults { Faults SecondDevice result.note (D.state second.old).faults
+        (D.state second.new).faults }
     ensures spool_faults { Faults SpoolDevice result.note (S.state spool.old).faults
         (S.state spool.new).faults }
     ensures warned { Warns result.note (H.streams host.old) (H.streams host.new) }
     ensures rest { H.host_rest host.old host.new }
+    ensures second_rest { D.disk_rest second.old second.new }
     ensures spool_rest { S.spool_rest spool.old spool.new }
 {
-    let note = do_words(alloc, words, host, spool, now, rng);
+    let note = do_words(alloc, words, host, second, spool, now, rng);
     end_run(host, note)
 }

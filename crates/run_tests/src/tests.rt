@@ -1,5 +1,6 @@
 // Whole runs on twoskip files: what they print and leave, and what a stop leaves.
 mod alike;
+mod converting;
 mod files;
 mod limits;
 mod rows;

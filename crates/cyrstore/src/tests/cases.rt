@@ -62,9 +62,10 @@ pub(crate) fn status_of(
     words: &[String],
     host: &mut MemHost,
 ) -> Result<u8, NoMemory> {
+    let mut second = MemDisk::new(alloc, None, 0, &[])?;
     let mut spool = MemSpool::new(alloc)?;
     let mut rng = Pcg32::new(42, 54);
-    Ok(run(alloc, words, host, &mut spool, 0, &mut rng).status)
+    Ok(run(alloc, words, host, &mut second, &mut spool, 0, &mut rng).status)
 }
 
 // What the host was told, and what its file then reads.

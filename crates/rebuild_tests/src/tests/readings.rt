@@ -4,7 +4,7 @@ use super::old_index::{Field, OldIndex, OldRecord, index_bytes};
 use super::rows::{NOW, folder, host};
 use super::runs::words_of;
 use cyr_top::run;
-use mem_devices::MemHost;
+use mem_devices::{MemDisk, MemHost};
 use rand_pcg::Pcg32;
 use std::alloc::Global;
 use std::process::Abort;
@@ -520,7 +520,16 @@ pub(crate) fn rebuild_box(
     let mut host = host(alloc, old, failing[1], failing[2])?;
     let words = words_of(alloc, "reconstruct box")?;
     let mut rng = Pcg32::new(42, 54);
-    let outcome = run(alloc, &words, &mut host, &mut spool, now, &mut rng);
+    let mut second = MemDisk::new(alloc, None, 0, &[])?;
+    let outcome = run(
+        alloc,
+        &words,
+        &mut host,
+        &mut second,
+        &mut spool,
+        now,
+        &mut rng,
+    );
     Ok((outcome.status, host))
 }
 

@@ -3,6 +3,7 @@ use super::indexes::{DAMAGED, THREE_RECORDS, TWO_FRESH, TWO_KEPT_AND_FRESH};
 use super::model::File;
 use super::rows::{FIVE, NOW, TWO, folder, host};
 use cyr_top::run;
+use mem_devices::MemDisk;
 use rand_pcg::Pcg32;
 use std::alloc::{AllocError, Global};
 use std::process::Abort;
@@ -104,7 +105,16 @@ fn assert_row(rt: &impl Abort, alloc: Global, row: &Row) -> Result<(), Fail> {
     let mut host = host(alloc, row.main, row.failing[1], row.failing[2])?;
     let words = words_of(alloc, row.words)?;
     let mut rng = Pcg32::new(42, 54);
-    let outcome = run(alloc, &words, &mut host, &mut spool, NOW, &mut rng);
+    let mut second = MemDisk::new(alloc, None, 0, &[])?;
+    let outcome = run(
+        alloc,
+        &words,
+        &mut host,
+        &mut second,
+        &mut spool,
+        NOW,
+        &mut rng,
+    );
     assert_eq!(rt; outcome.status, row.status, "{}", row.words);
     assert_eq!(rt; host.warned(), row.warned.as_bytes(), "{}", row.words);
     assert_eq!(rt; host.told(), row.told.as_bytes(), "{}", row.words);

@@ -62,7 +62,8 @@ pub fn status_of(
     words: &[String],
     level: u32,
 ) -> Result<u8, Fail> {
+    let mut second = MemDisk::new(alloc, None, 0, &[])?;
     let mut spool = MemSpool::new(alloc)?;
     let mut rng = rng_of(level)?;
-    Ok(run(alloc, words, host, &mut spool, 0, &mut rng).status)
+    Ok(run(alloc, words, host, &mut second, &mut spool, 0, &mut rng).status)
 }

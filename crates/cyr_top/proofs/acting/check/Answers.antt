@@ -34,5 +34,5 @@ returns-in-Some-clause-rest g c = g.met.H.Host.host_then _ _ _ (g.met.H.Host.dis
 
 pub returns-in-None-clause-does : goal.returns-in-None-clause-does
 returns-in-None-clause-does g c = λ (words : Stream).
-    subst (λ (n : Note). DoesAction (asking g.B.Db.kind false Consistent (given words [])) (moment (g.H.Disk.state c.args.host.now) (g.H.Host.streams c.args.host.now)) (moment (g.H.Disk.state c.verify_db.new.host) (g.H.Host.streams c.verify_db.new.host)) n) (sym c.note_of_opening.ensures)
+    subst (λ (n : Note). DoesAction (asking g.B.Db.kind false Consistent (given words [])) (moment (g.H.Disk.state c.args.host.now) (g.H.Host.streams c.args.host.now)) (moment (g.H.Disk.state c.verify_db.new.disk) (g.H.Host.streams c.verify_db.new.disk)) n) (sym c.note_of_opening.ensures)
     (refusal_does g.B.Db.kind c.requires (given words []) c.in-Err.fault _ _ _ _ (g.met.H.Host.disk_keeps _ _ c.verify_db.ensures.rest) c.verify_db.ensures.stays c.verify_db.ensures.fresh c.in-None.ensures.none c.in-Err.ensures.refused c.in-Err.ensures.cause)

@@ -21,7 +21,7 @@ returns-in-Ok-clause-draws g c =
 
 pub returns-in-Err-clause-does : goal.returns-in-Err-clause-does
 returns-in-Err-clause-does g c =
-    subst (λ (n : Note). DoesAction (asking g.B.Db.kind false c.args.action.now (given (g.R.Rng.stream c.args.rng.now) [])) (moment (g.H.Disk.state c.args.host.now) (g.H.Host.streams c.args.host.now)) (moment (g.H.Disk.state c.open_db.new.host) (g.H.Host.streams c.open_db.new.host)) n) (sym c.note_of_opening.ensures)
+    subst (λ (n : Note). DoesAction (asking g.B.Db.kind false c.args.action.now (given (g.R.Rng.stream c.args.rng.now) [])) (moment (g.H.Disk.state c.args.host.now) (g.H.Host.streams c.args.host.now)) (moment (g.H.Disk.state c.open_db.new.disk) (g.H.Host.streams c.open_db.new.disk)) n) (sym c.note_of_opening.ensures)
     (unopened_does g.B.Db.kind c.requires.laws c.args.action.now (given (g.R.Rng.stream c.args.rng.now) []) _ _ _ _ c.in-Err.fault (g.met.H.Disk.rest_goes_on _ _ c.open_db.ensures.rest) (g.met.H.Disk.is_moment _) (λ is. subst CanAct is c.requires.can) (g.met.H.Host.disk_keeps _ _ c.open_db.ensures.rest)
     c.in-Err.ensures.opens.refused c.in-Err.ensures.disk c.in-Err.ensures.cause)
 

@@ -1,12 +1,11 @@
-use Rattle.std.proofs.Common.{[], false, List, ℕ, Ok, sym, subst}
+use Rattle.std.proofs.Common.{[], false, List, ℕ, sym, subst}
 use Rattle.base_devices.specs.HostCalls.{moment}
-use Rattle.base_notes.specs.declared.action.Action.{Action}
 use Rattle.base_notes.specs.declared.note.Note.{Note}
 use Rattle.base_notes.specs.declared.note.Note.TheVariants.{Done}
 use Rattle.cyr_top.specs.Actions.{DoesAction, DrawsFor}
 use Rattle.cyr_top.specs.Asked.{asking}
 use Rattle.db_tool.specs.Doing.{Looks}
-use Rattle.db_tool.specs.Tasks.{CanAct, given}
+use Rattle.db_tool.specs.Tasks.{given}
 use Rattle.flat_db.specs.Sessions.{flat_kind, flat_state}
 use Rattle.flat_db.specs.Showing.{ShowsAs}
 use Rattle.flat_db.specs.declared.showing.Shown.{Shown}

@@ -7,7 +7,9 @@ use Rattle.db_tool.specs.Tasks.{given}
 use Rattle.tool_words.specs.declared.jobs.Job.{Job}
 use Rattle.cyr_top.specs.Actions.{DoesAction}
 use Rattle.cyr_top.specs.Asked.{OnDatabase}
+use Rattle.cyr_top.specs.Converting.{DoesConversion, OnConversion, with_both}
 use Rattle.cyr_top.specs.Rebuilding.{DoesRebuild, OnFolder, rebuild_of}
+use Rattle.cyr_top.proofs.ConvertLemmas.{nothing_converted, on_each_conversion}
 use Rattle.cyr_top.proofs.CrashLemmas.{nothing_done}
 use Rattle.cyr_top.proofs.RebuildingLemmas.{nothing_rebuilt, on_each_folder}
 use Rattle.cyr_top.proofs.running.do_words.Goals as goal
@@ -15,7 +17,7 @@ use Rattle.cyr_top.proofs.running.do_words.Goals as goal
 pub returns-in-Ok-clause-none : goal.returns-in-Ok-clause-none
 returns-in-Ok-clause-none g c = λ none.
     let met = c.do_job.ensures.usage (not_built (map string_bytes c.args.words.now) c.in-Ok.job c.in-Ok.ensures.job none) in
-    (inl met.0, met.1, met.2, met.3)
+    (inl met.0, met.1, met.2, met.3, met.4)
 
 pub returns-in-Ok-clause-does : goal.returns-in-Ok-clause-does
 returns-in-Ok-clause-does g c = λ job built.
@@ -30,7 +32,7 @@ returns-in-Err-NoMemory-clause-does g c = λ job built.
 pub returns-in-Ok-clause-unread : goal.returns-in-Ok-clause-unread
 returns-in-Ok-clause-unread g c = λ job built.
     let is = built_is (map string_bytes c.args.words.now) c.in-Ok.job job c.in-Ok.ensures.job built in
-    subst (λ (j : Job). OnDatabase (given (g.R.Rng.stream c.args.rng.now) []) (λ asked. c.do_job.new.spool ≡ c.args.spool.now) j) is.0 (c.do_job.ensures.unread is.1)
+    subst (λ (j : Job). OnDatabase (given (g.R.Rng.stream c.args.rng.now) []) (λ asked. (c.do_job.new.spool ≡ c.args.spool.now) × (c.do_job.new.second ≡ c.args.second.now)) j) is.0 (c.do_job.ensures.unread is.1)
 
 pub returns-in-Ok-clause-rebuilds : goal.returns-in-Ok-clause-rebuilds
 returns-in-Ok-clause-rebuilds g c = λ job built.
@@ -40,9 +42,24 @@ returns-in-Ok-clause-rebuilds g c = λ job built.
 pub returns-in-Ok-clause-undrawn : goal.returns-in-Ok-clause-undrawn
 returns-in-Ok-clause-undrawn g c = λ job built.
     let is = built_is (map string_bytes c.args.words.now) c.in-Ok.job job c.in-Ok.ensures.job built in
-    subst (λ (j : Job). OnFolder (λ options. g.R.Rng.stream c.do_job.new.rng ≡ g.R.Rng.stream c.args.rng.now) j) is.0 c.do_job.ensures.undrawn
+    subst (λ (j : Job). OnFolder (λ options. (g.R.Rng.stream c.do_job.new.rng ≡ g.R.Rng.stream c.args.rng.now) × (c.do_job.new.second ≡ c.args.second.now)) j) is.0 c.do_job.ensures.undrawn
 
 pub returns-in-Err-NoMemory-clause-rebuilds : goal.returns-in-Err-NoMemory-clause-rebuilds
 returns-in-Err-NoMemory-clause-rebuilds g c = λ job built.
     on_each_folder (λ options. DoesRebuild (rebuild_of (g.S.Spool.state c.args.spool.now) c.args.now options) (moment (g.H.Disk.state c.args.host.now) (g.H.Host.streams c.args.host.now)) (moment (g.H.Disk.state c.args.host.now) (g.H.Host.streams c.args.host.now)) Memory)
     (λ options. nothing_rebuilt (rebuild_of (g.S.Spool.state c.args.spool.now) c.args.now options) (moment (g.H.Disk.state c.args.host.now) (g.H.Host.streams c.args.host.now)) (g.met.H.Disk.is_moment c.args.host.now)) job
+
+pub returns-in-Ok-clause-converts : goal.returns-in-Ok-clause-converts
+returns-in-Ok-clause-converts g c = λ job built.
+    let is = built_is (map string_bytes c.args.words.now) c.in-Ok.job job c.in-Ok.ensures.job built in
+    subst (λ (j : Job). OnConversion (λ asked. DoesConversion asked (with_both (g.H.Disk.state c.args.host.now) (g.D.Disk.state c.args.second.now) (g.R.Rng.stream c.args.rng.now)) (with_both (g.H.Disk.state c.do_job.new.host) (g.D.Disk.state c.do_job.new.second) (g.R.Rng.stream c.do_job.new.rng)) c.do_job.result) j) is.0 c.do_job.ensures.converts
+
+pub returns-in-Ok-clause-silent : goal.returns-in-Ok-clause-silent
+returns-in-Ok-clause-silent g c = λ job built.
+    let is = built_is (map string_bytes c.args.words.now) c.in-Ok.job job c.in-Ok.ensures.job built in
+    subst (λ (j : Job). OnConversion (λ asked. (g.H.Host.streams c.do_job.new.host ≡ g.H.Host.streams c.args.host.now) × (c.do_job.new.spool ≡ c.args.spool.now)) j) is.0 c.do_job.ensures.silent
+
+pub returns-in-Err-NoMemory-clause-converts : goal.returns-in-Err-NoMemory-clause-converts
+returns-in-Err-NoMemory-clause-converts g c = λ job built.
+    on_each_conversion (λ asked. DoesConversion asked (with_both (g.H.Disk.state c.args.host.now) (g.D.Disk.state c.args.second.now) (g.R.Rng.stream c.args.rng.now)) (with_both (g.H.Disk.state c.args.host.now) (g.D.Disk.state c.args.second.now) (g.R.Rng.stream c.args.rng.now)) Memory)
+    (λ from to. nothing_converted from to (g.H.Disk.state c.args.host.now) (g.D.Disk.state c.args.second.now) (g.R.Rng.stream c.args.rng.now) (g.met.H.Disk.is_moment c.args.host.now) (g.met.D.Disk.is_moment c.args.second.now)) job

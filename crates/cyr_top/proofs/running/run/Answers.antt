@@ -1,4 +1,4 @@
-use Rattle.std.proofs.Common.{[], sym, subst}
+use Rattle.std.proofs.Common.{◌≡◌, [], sym, subst}
 use Rattle.base_devices.specs.HostCalls.{moment}
 use Rattle.base_notes.specs.declared.note.Note.{Note}
 use Rattle.db_core.specs.Sessions.{DbLaws}
@@ -6,7 +6,10 @@ use Rattle.db_tool.specs.Tasks.{given}
 use Rattle.cyr_top.specs.Actions.{DoesAction, DrawsFor, but_warned}
 use Rattle.cyr_top.specs.Asked.{Asked}
 use Rattle.cyr_top.specs.Crashes.{KeepsPromises}
+use Rattle.cyr_top.specs.Converting.{DoesConversion, with_both}
 use Rattle.cyr_top.specs.Rebuilding.{DoesRebuild, rebuild_of}
+use Rattle.cyr_top.specs.Stated.{SamePrints}
+use Rattle.cyr_top.proofs.ConvertLemmas.{converts_still, on_conversion, same_prints}
 use Rattle.cyr_top.proofs.CrashLemmas.{promised}
 use Rattle.cyr_top.proofs.JobLemmas.{on_job}
 use Rattle.cyr_top.proofs.RebuildingLemmas.{on_folder, rebuild_still}
@@ -53,3 +56,17 @@ returns-clause-rebuilds g c = λ job is. on_folder
     (λ options does. subst (λ (n : Note). DoesRebuild (rebuild_of (g.S.Spool.state c.args.spool.now) c.args.now options) (moment (g.H.Disk.state c.args.host.now) (g.H.Host.streams c.args.host.now)) (but_warned (g.H.Disk.state c.end_run.new.host) (g.H.Host.streams c.args.host.now) (g.H.Host.streams c.end_run.new.host)) n) (sym c.end_run.ensures.note)
     (rebuild_still (rebuild_of (g.S.Spool.state c.args.spool.now) c.args.now options) (g.H.Host.streams c.args.host.now) (g.H.Host.streams c.do_words-note.new.host) (g.H.Host.streams c.end_run.new.host) _ _ _ c.do_words-note.result c.end_run.ensures.disk c.end_run.ensures.told c.end_run.ensures.tell_faults does))
     job (c.do_words-note.ensures.rebuilds job is)
+
+pub returns-clause-converts : goal.returns-clause-converts
+returns-clause-converts g c = λ job is. on_conversion
+    (λ asked. DoesConversion asked (with_both (g.H.Disk.state c.args.host.now) (g.D.Disk.state c.args.second.now) (g.R.Rng.stream c.args.rng.now)) (with_both (g.H.Disk.state c.do_words-note.new.host) (g.D.Disk.state c.do_words-note.new.second) (g.R.Rng.stream c.do_words-note.new.rng)) c.do_words-note.result)
+    (λ asked. DoesConversion asked (with_both (g.H.Disk.state c.args.host.now) (g.D.Disk.state c.args.second.now) (g.R.Rng.stream c.args.rng.now)) (with_both (g.H.Disk.state c.end_run.new.host) (g.D.Disk.state c.do_words-note.new.second) (g.R.Rng.stream c.do_words-note.new.rng)) c.end_run.result.note)
+    (λ asked does. subst (λ (n : Note). DoesConversion asked (with_both (g.H.Disk.state c.args.host.now) (g.D.Disk.state c.args.second.now) (g.R.Rng.stream c.args.rng.now)) (with_both (g.H.Disk.state c.end_run.new.host) (g.D.Disk.state c.do_words-note.new.second) (g.R.Rng.stream c.do_words-note.new.rng)) n) (sym c.end_run.ensures.note) (converts_still asked _ _ _ _ _ _ _ c.do_words-note.result c.end_run.ensures.disk does))
+    job (c.do_words-note.ensures.converts job is)
+
+pub returns-clause-silent : goal.returns-clause-silent
+returns-clause-silent g c = λ job is. on_conversion
+    (λ asked. (g.H.Host.streams c.do_words-note.new.host ≡ g.H.Host.streams c.args.host.now) × (c.do_words-note.new.spool ≡ c.args.spool.now))
+    (λ asked. SamePrints (g.H.Host.streams c.args.host.now) (g.H.Host.streams c.end_run.new.host) × (c.do_words-note.new.spool ≡ c.args.spool.now))
+    (λ asked silent. (same_prints _ _ _ silent.0 c.end_run.ensures.told c.end_run.ensures.tell_faults, silent.1))
+    job (c.do_words-note.ensures.silent job is)
