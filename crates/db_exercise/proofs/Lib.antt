@@ -1,0 +1,5 @@
+mod WordLemmas
+mod MadeLemmas
+mod RefusalLemmas
+mod EndLemmas
+mod ReportLemmas
