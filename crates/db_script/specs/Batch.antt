@@ -6,7 +6,7 @@ use Rattle.base_notes.specs.declared.note.Note.{Note}
 use Rattle.base_notes.specs.declared.note.Note.TheVariants.{Done, BadLine, Limit, DeviceFault, Memory}
 use Rattle.db_core.specs.Calls.{KeepsInPlace}
 use Rattle.db_core.specs.Sessions.{DbKind, DbMoment}
-use Rattle.base_notes.specs.declared.note.LimitName.TheVariants.{Script}
+use Rattle.base_notes.specs.declared.note.LimitName.TheVariants.{File, Key, Script, Value}
 use Rattle.base_bytes.specs.declared.limits.TheConstants.{SCRIPT_LIMIT}
 use Rattle.db_script.specs.declared.script.ScriptFault.{ScriptFault}
 use Rattle.db_script.specs.declared.script.ScriptFault.TheVariants.{TooLong, BadLine as IsBad, NoMemory, InputFault}
@@ -42,6 +42,19 @@ IsScriptDevice device = (device ≡ Host) ⊎ (device ≡ Input)
 -- a note names no other device
 abbrev pub NamesScriptDevice : Note → Type 0
 NamesScriptDevice note = (device : Device) → note ≡ DeviceFault device → IsScriptDevice device
+
+-- the notes of a script
+abbrev pub IsScriptNote : Note → Type 0
+IsScriptNote Done = Unit {0}
+IsScriptNote (BadLine _) = Unit {0}
+IsScriptNote (Limit Key _) = Unit {0}
+IsScriptNote (Limit Value _) = Unit {0}
+IsScriptNote (Limit File _) = Unit {0}
+IsScriptNote (Limit Script _) = Unit {0}
+IsScriptNote (DeviceFault Host) = Unit {0}
+IsScriptNote (DeviceFault Input) = Unit {0}
+IsScriptNote Memory = Unit {0}
+IsScriptNote note = ⊥
 
 -- ---- the next line
 

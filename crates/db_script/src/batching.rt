@@ -5,7 +5,7 @@ ghost use Rattle.base_notes.specs.declared.note.Device.TheVariants.{Host, Input}
 ghost use Rattle.base_notes.specs.declared.note.Note.TheVariants.{DeviceFault};
 ghost use Rattle.db_core.specs.Calls.{OpensCommitted};
 ghost use Rattle.db_core.specs.Sessions.{over};
-ghost use Rattle.db_script.specs.Batch.{GoesWell, NamesScriptDevice, end_note, found_or_note, note_of_answer, note_or_done, script_note};
+ghost use Rattle.db_script.specs.Batch.{GoesWell, IsScriptNote, NamesScriptDevice, end_note, found_or_note, note_of_answer, note_or_done, script_note};
 ghost use Rattle.db_script.specs.Held.{IsFound, found_in};
 ghost use Rattle.db_script.specs.Reading.{ReadsLine, is_gathered, script_state};
 ghost use Rattle.db_script.specs.declared.buffer.Found.{Found};
@@ -65,6 +65,8 @@ fn do_line<H: Host, B: Db<H>>(
     ensures well { GoesWell B.kind (over (H.state host.old) (B.state db.old))
         (over (H.state host.new) (B.state db.new)) (note_or_done result) }
     ensures device { IfSome result (λ note. IsFault note → note ≡ DeviceFault Host) }
+    ensures notes { IfSome result IsScriptNote }
+    ensures warned { (H.streams host.new).warned ≡ (H.streams host.old).warned }
     ensures does { DoesOne B.kind (asked number word (command_of line.now))
         (gathered (B.state db.old) (holding output.old (H.state host.old) (H.streams host.old)))
         (gathered (B.state db.new) (holding output.new (H.state host.new) (H.streams host.new)))
@@ -98,6 +100,8 @@ fn finish<H: Host, B: Db<H>>(note: Note, db: &mut B, host: &mut H, output: &mut 
         (over (H.state host.new) (B.state db.new)) result }
     ensures same { (IsFault result → ⊥) → result ≡ note }
     ensures device { IsFault result → result ≡ DeviceFault Host }
+    ensures notes { IsScriptNote note → IsScriptNote result }
+    ensures warned { (H.streams host.new).warned ≡ (H.streams host.old).warned }
     ensures closed { (IsFault result → ⊥) → (B.state db.new).in_transaction ≡ false }
     ensures empty { (IsFault result → ⊥) → output.new ≡ [] }
     ensures some { PrintsSome output.old (moment (H.state host.old) (H.streams host.old))
@@ -157,6 +161,8 @@ fn stop<H: Host, B: Db<H>>(note: Note, db: &mut B, host: &mut H, output: &mut Pi
         (over (H.state host.new) (B.state db.new)) result }
     ensures same { (IsFault result → ⊥) → result ≡ note }
     ensures device { IsFault result → (result ≡ DeviceFault Host) ⊎ (result ≡ note) }
+    ensures notes { IsScriptNote note → IsScriptNote result }
+    ensures warned { (H.streams host.new).warned ≡ (H.streams host.old).warned }
     ensures closed { (IsFault result → ⊥) → (B.state db.new).in_transaction ≡ false }
     ensures empty { (IsFault result → ⊥) → output.new ≡ [] }
     ensures some { PrintsSome output.old (moment (H.state host.old) (H.streams host.old))
@@ -192,6 +198,8 @@ fn do_or_stop<H: Host, B: Db<H>>(
     ensures well { GoesWell B.kind (over (H.state host.old) (B.state db.old))
         (over (H.state host.new) (B.state db.new)) (note_or_done result) }
     ensures device { IfSome result (λ note. IsFault note → note ≡ DeviceFault Host) }
+    ensures notes { IfSome result IsScriptNote }
+    ensures warned { (H.streams host.new).warned ≡ (H.streams host.old).warned }
     ensures closed { IfSome result (λ note. (IsFault note → ⊥)
         → (B.state db.new).in_transaction ≡ false) }
     ensures empty { IfSome result (λ note. (IsFault note → ⊥) → output.new ≡ []) }
@@ -226,6 +234,7 @@ fn next_found<I: Source>(
     ensures lines { OnOk result ((script_state script.new).lines
         ≡ (script_state script.old).lines + 1) }
     ensures note { IfErr result (λ note. IsFault note → note ≡ DeviceFault Input) }
+    ensures notes { IfErr result IsScriptNote }
     ensures faults { Faults Input (note_of_answer result)
         (I.state input.old).faults (I.state input.new).faults }
     ensures still { is_gathered (script_state script.old) ≡ true → input.new ≡ input.old }
@@ -267,6 +276,8 @@ fn do_next<H: Host, B: Db<H>, I: Source, R: Rng>(
     ensures input { Faults Input (note_or_done result)
         (I.state input.old).faults (I.state input.new).faults }
     ensures device { IfSome result NamesScriptDevice }
+    ensures notes { IfSome result IsScriptNote }
+    ensures warned { (H.streams host.new).warned ≡ (H.streams host.old).warned }
     ensures closed { IfSome result (λ note. (IsFault note → ⊥)
         → (B.state db.new).in_transaction ≡ false) }
     ensures empty { IfSome result (λ note. (IsFault note → ⊥) → output.new ≡ []) }
@@ -312,6 +323,8 @@ fn do_lines<H: Host, B: Db<H>, I: Source, R: Rng>(
         (over (H.state host.new) (B.state db.new)) result }
     ensures input { Faults Input result (I.state input.old).faults (I.state input.new).faults }
     ensures device { NamesScriptDevice result }
+    ensures notes { IsScriptNote result }
+    ensures warned { (H.streams host.new).warned ≡ (H.streams host.old).warned }
     ensures closed { (IsFault result → ⊥) → (B.state db.new).in_transaction ≡ false }
     ensures empty { (IsFault result → ⊥) → output.new ≡ [] }
     ensures stated { (left : List ℕ) → (I.state input.old).left ≡ Some left
@@ -322,8 +335,9 @@ fn do_lines<H: Host, B: Db<H>, I: Source, R: Rng>(
         → KeepsPrefixes B.kind (script_task B.kind (B.state db.old) (R.stream rng.old) left)
         (during (H.state host.old) (H.streams host.old) (B.state db.old))
         (during (H.state host.new) (H.streams host.new) (B.state db.new)) }
-    ensures stands { (left : List ℕ) → (I.state input.old).left ≡ Some left → (IsFault result → ⊥)
-        → StandsAfter B.kind (script_task B.kind (B.state db.old) (R.stream rng.old) left)
+    ensures stands { (left : List ℕ) → (I.state input.old).left ≡ Some left
+        → (IsFault result → ⊥) → StandsAfter B.kind
+        (script_task B.kind (B.state db.old) (R.stream rng.old) left)
         (during (H.state host.old) (H.streams host.old) (B.state db.old))
         (during (H.state host.new) (H.streams host.new) (B.state db.new)) result }
     ensures words { (left : List ℕ) → (I.state input.old).left ≡ Some left
@@ -369,12 +383,15 @@ pub fn batch<H: Host, B: Db<H>, I: Source, R: Rng>(
     requires closed { (B.state db.old).in_transaction ≡ false }
     requires tied { B.tie db.old host.old }
 
-    // The host and the source failed exactly where the note says so, once, and no other device is named.
+    // The host and the source failed exactly where the note says so, once, and no other device is named; there are no
+    // other notes, and nothing goes to standard error.
     ensures well { GoesWell B.kind (over (H.state host.old) (B.state db.old))
         (over (H.state host.new) (B.state db.new)) result.note }
     ensures input { Faults Input result.note
         (I.state input.old).faults (I.state input.new).faults }
     ensures device { NamesScriptDevice result.note }
+    ensures notes { IsScriptNote result.note }
+    ensures warned { (H.streams host.new).warned ≡ (H.streams host.old).warned }
 
     // Of a source that shows its bytes: at each moment, also within a write, a crash leaves the map after some first of
     // the stated transactions, those whose reply was printed by then among them, none in part.
@@ -395,8 +412,9 @@ pub fn batch<H: Host, B: Db<H>, I: Source, R: Rng>(
 
     // Of a source that shows its bytes: at an end without a fault of a device all of the transactions stand, or where memory
     // ran out some first of them, those whose reply was printed among them.
-    ensures stands { (left : List ℕ) → (I.state input.old).left ≡ Some left → (IsFault result.note → ⊥)
-        → StandsAfter B.kind (script_task B.kind (B.state db.old) (R.stream rng.old) left)
+    ensures stands { (left : List ℕ) → (I.state input.old).left ≡ Some left
+        → (IsFault result.note → ⊥) → StandsAfter B.kind
+        (script_task B.kind (B.state db.old) (R.stream rng.old) left)
         (during (H.state host.old) (H.streams host.old) (B.state db.old))
         (during (H.state host.new) (H.streams host.new) (B.state db.new)) result.note }
 

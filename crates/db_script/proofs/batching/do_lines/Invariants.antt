@@ -15,6 +15,7 @@ invariant-loop g l = record {
   lines : (script_state l.script).lines ≡ l.counter;
   well : GoesWell g.B.Db.kind (over (g.H.Disk.state l.initial.host) (g.B.Db.state l.initial.db)) (over (g.H.Disk.state l.host) (g.B.Db.state l.db)) Done;
   faults : (g.I.Source.state l.input).faults ≡ (g.I.Source.state l.initial.input).faults;
+  warned : (g.H.Host.streams l.host).warned ≡ (g.H.Host.streams l.initial.host).warned;
   sound : (g.B.Db.state l.db).is_broken ≡ false;
   tied : g.B.Db.tie l.db l.host;
   course : (left : List ℕ) → (g.I.Source.state l.initial.input).left ≡ Some left
