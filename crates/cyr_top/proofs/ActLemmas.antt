@@ -1,33 +1,34 @@
 -- An action over the main file as it is: the file is not opened, or it is and the task is done.
-use Rattle.std.proofs.Common.{◌≡◌, ◌⊎◌, inl, inr, ⊎_elim, ℕ, ◌-◌, ◌≤◌, false, List, [], Option, Some, None, Ok, Err, refl, sym, ◌∙◌, ap, subst, arith}
+use Rattle.std.proofs.Common.{◌≡◌, ◌⊎◌, inl, inr, ⊎_elim, ℕ, ◌-◌, ◌≤◌, true, false, List, [], Option, Some, None, Ok, Err, refl, sym, ◌∙◌, ap, subst, arith}
 use Rattle.std.specs.Prelude.{IsSome}
 use Rattle.base_bytes.specs.OrderedMap.{Map}
 use Rattle.base_devices.specs.Causes.{FaultHasCause}
-use Rattle.base_devices.specs.CrashImages.{Image, DiskState, GoesOn, IsMoment, WhereRead}
-use Rattle.base_devices.specs.Frames.{MayLeaveLess}
+use Rattle.base_devices.specs.CrashImages.{Image, DiskState, GoesOn, IsMoment, LeavesOnly, WhereRead}
+use Rattle.base_devices.specs.Frames.{MayLeaveLess, OnlyPrints}
 use Rattle.base_devices.specs.HostCalls.{HostState, moment, told_with}
 use Rattle.base_devices.proofs.FrameLemmas.{file_of_less, file_of_prints, file_then}
 use Rattle.base_devices.proofs.Moments.{each_then}
 use Rattle.base_notes.specs.declared.action.Action.{Action}
 use Rattle.base_notes.specs.declared.action.Action.TheVariants.{Consistent}
-use Rattle.base_notes.specs.declared.note.Device.TheVariants.{Host}
+use Rattle.base_notes.specs.declared.note.Device.TheVariants.{Host, Input}
 use Rattle.base_notes.specs.declared.note.Note.{Note}
 use Rattle.base_notes.specs.declared.note.Note.TheVariants.{Usage, DeviceFault, Memory}
 use Rattle.db_core.specs.Opening.{OpensTo, OpensDisk, SameMap, IsOpenRefusal, IsDeviceFault}
 use Rattle.db_core.specs.Sessions.{DbKind, DbLaws, DbState, at_rest}
 use Rattle.db_core.specs.declared.opening.OpenFault.{OpenFault}
 use Rattle.db_core.specs.declared.opening.OpenFault.TheVariants.{Absent as NoFile, TooBig, NoMemory as NoRoom, DiskFault as NoDisk, Damaged as Flawed}
-use Rattle.db_tool.specs.Doing.{during, DoesTask, StandsAfter, DrawsWords}
+use Rattle.db_core.specs.Calls.{KeepsInPlace}
+use Rattle.db_tool.specs.Doing.{ToolMoment, during, DoesTask, IsStated, StandsAfter, DrawsWords}
 use Rattle.rand_core.specs.Stream.{Stream}
 use Rattle.base_devices.specs.Time.{goes_then}
 use Rattle.db_tool.specs.Printing.{Printed, PrintsSome}
-use Rattle.db_tool.specs.Tasks.{Given, KeepsPrefix}
+use Rattle.db_tool.specs.Tasks.{CanAct, Given, KeepsPrefix, Task, task_of}
 use Rattle.db_tool.specs.ToolNotes.{IsFault, IsCutOff, Faults, opening_note}
 use Rattle.db_tool.proofs.PrintLemmas.{printed_still, some_none}
 use Rattle.cyr_top.specs.Actions.{IsBefore, KeepsRead, StandsAt, opened, not_opened, IsStatedBy, DoesAction, DrawsFor}
-use Rattle.cyr_top.specs.Asked.{Asked, asking, task_for}
-use Rattle.cyr_top.specs.Stated.{StartsFrom, IsUnopened, acted, unopened, unopened_note, unopened_output, IsBuilt}
-use Rattle.cyr_top.proofs.StatedLemmas.{opens_fails, starts_fails, starts_once, stated_once, task_plain, opening_built, opening_no_usage, cut_off_built, cut_off_no_usage}
+use Rattle.cyr_top.specs.Asked.{Asked, asking, task_by, task_for}
+use Rattle.cyr_top.specs.Stated.{StartsFrom, IsUnopened, acted, unopened, unopened_note, unopened_output, IsBuilt, IsNoteOf}
+use Rattle.cyr_top.proofs.StatedLemmas.{done_task, opens_fails, starts_fails, starts_once, stated_once, task_plain, note_of_action, fault_built, opening_built, opening_no_usage, cut_off_no_usage}
 
 pub some_of : {A : Type 0} (o : Option A) → IsSome o → (x : A) × (o ≡ Some x)
 some_of None some = absurd (cc some)
@@ -65,6 +66,36 @@ device_of (Flawed at flaw) is = absurd (cc is)
 pub note_of : (f : OpenFault) → IsDeviceFault f → opening_note Host f ≡ DeviceFault Host
 note_of NoDisk is = refl
 note_of f is = absurd is
+
+-- A task was done, or cut off, whatever the devices that its note may name.
+pub record TaskDone (kind : DbKind) (action : Action) (task : Task) (old new : ToolMoment) (note : Note) : Type 0 where
+  pub each : LeavesOnly old.host.disk new.host.disk (λ c n. (old.host.disk.mark ≤ n) × (n ≤ new.host.disk.mark) × KeepsPrefix kind task old.session.committed (n - old.host.disk.mark) c)
+  pub stated : IsCutOff note ⊎ IsStated task old new note
+  pub prints : PrintsSome task.output old.host new.host
+  pub stands : (IsFault note → ⊥) → StandsAfter kind task old new note
+  pub only_prints : task.only_prints ≡ true → OnlyPrints old.host.disk new.host.disk
+  pub in_place : KeepsInPlace kind old.host.disk new.host.disk
+  pub faults : Faults Host note old.host.disk.faults new.host.disk.faults
+  pub built : IsFault note → IsNoteOf action note
+
+pub done_of : (kind : DbKind) (action : Action) (task : Task) (old new : ToolMoment) (note : Note) → DoesTask kind task old new note → TaskDone kind action task old new note
+done_of kind action task old new note does = record {
+  each = does.each;
+  stated = does.stated;
+  prints = does.prints;
+  stands = does.stands;
+  only_prints = λ only. (does.only_prints only).0;
+  in_place = does.in_place;
+  faults = does.faults;
+  built = λ failed. note_of_action action note (fault_built note does.device failed);
+}
+
+-- an action that is no script, as it is asked for
+pub acted_of : (kind : DbKind) (action : Action) (s : DbState) (g : Given) (old new : ToolMoment) (note : Note) → CanAct action → DoesTask kind (task_of kind s g action) old new note → TaskDone kind action (task_by action kind s g) old new note
+acted_of kind action s g old new note can does = subst (λ (t : Task). TaskDone kind action t old new note) (done_task action kind s g can) (done_of kind action (task_of kind s g action) old new note does)
+
+pub acted_draws : (kind : DbKind) (action : Action) (s : DbState) (g : Given) (old new : Stream) (note : Note) → CanAct action → DrawsWords (task_of kind s g action) old new note → DrawsWords (task_by action kind s g) old new note
+acted_draws kind action s g old new note can draws = subst (λ (t : Task). DrawsWords t old new note) (done_task action kind s g can) draws
 
 module _ (kind : DbKind) (laws : DbLaws kind) (action : Action) (g : Given) where
   abbrev asked : Asked
@@ -132,7 +163,7 @@ module _ (kind : DbKind) (laws : DbLaws kind) (action : Action) (g : Given) wher
       absent = λ make. absurd (cc make);
       made = λ make. absurd (cc make);
       faults = record { rose = λ is. cause.rose (device_of fault is); stood = λ not. ⊎_elim (λ failed. absurd (not (note_of fault failed))) (λ same. same) cause.stood };
-      built = opening_built fault;
+      built = note_of_action action (opening_note Host fault) (opening_built fault);
       no_usage = opening_no_usage fault;
     }
 
@@ -157,7 +188,7 @@ module _ (kind : DbKind) (laws : DbLaws kind) (action : Action) (g : Given) wher
 
   module _ {B : Type 0} (db : B) (s t : DbState) (o q p : HostState) (d x e : DiskState) (note : Note) (dx : GoesOn d x) (xe : GoesOn x e) (moment_x : IsMoment x) (moment_e : IsMoment e) (other : action ≡ Consistent → ⊥) (silent : q ≡ o)
       (opens : WhereRead d (λ main. OpensTo kind main s)) (disk : OpensDisk kind d x (Ok db)) (stood : x.faults ≡ d.faults)
-      (task : DoesTask kind (task_for asked s) (during x q s) (during e p t) note) (tied : t.is_broken ≡ false → (c : Image) → e.leaves c → kind.opens c t.committed) where
+      (task : TaskDone kind action (task_for asked s) (during x q s) (during e p t) note) (tied : t.is_broken ≡ false → (c : Image) → e.leaves c → kind.opens c t.committed) where
     marks : x.mark ≤ e.mark
     marks = task.prints.grew.later
 
@@ -200,9 +231,10 @@ module _ (kind : DbKind) (laws : DbLaws kind) (action : Action) (g : Given) wher
       end = λ c left. subst (λ (m : Map). kind.opens c m) (ap (λ (b : DbState). b.committed) st.rests) (tied (ap (λ (b : DbState). b.is_broken) st.rests) c left);
     }
 
-    of_built : IsCutOff note ⊎ (note ≡ (task_for asked s).note) → IsBuilt note
-    of_built (inl cut) = cut_off_built note task.device cut
-    of_built (inr is) = subst IsBuilt (sym is) (task_plain asked s).built
+    of_built : IsCutOff note ⊎ (note ≡ (task_for asked s).note) → IsNoteOf action note
+    of_built (inl (inl failed)) = task.built failed
+    of_built (inl (inr memory)) = subst (IsNoteOf action) (sym memory) (note_of_action action Memory tt)
+    of_built (inr is) = subst (IsNoteOf action) (sym is) (task_plain asked s).built
 
     of_usage : IsCutOff note ⊎ (note ≡ (task_for asked s).note) → note ≡ Usage → ⊥
     of_usage (inl cut) is = cut_off_no_usage note cut is
@@ -226,7 +258,7 @@ module _ (kind : DbKind) (laws : DbLaws kind) (action : Action) (g : Given) wher
       unopened = λ no_fault main is f un. absurd (opens_fails asked laws main s f (opens main is) un);
       kept = λ main is there settled prints.
           let less = disk.settled main is settled in
-          file_then d x e dx xe (omega (arith, disk.mark)) marks less.leaves (file_of_less d x less) (file_of_prints x e (task.only_prints (prints s (starts main is))).0);
+          file_then d x e dx xe (omega (arith, disk.mark)) marks less.leaves (file_of_less d x less) (file_of_prints x e (task.only_prints (prints s (starts main is))));
       checked = λ is. absurd (other is);
       in_place = λ is bytes reads. task.in_place is ∙ disk.publishes;
       absent = λ make. absurd (cc make);
@@ -244,3 +276,7 @@ module _ (kind : DbKind) (laws : DbLaws kind) (action : Action) (g : Given) wher
       opened = λ main is other starts_too. subst (λ (b : DbState). (draws.count ≤ (task_for asked b).words) × (IsCutOff note ⊎ (draws.count ≡ (task_for asked b).words))) (starts_once asked laws main s other (starts main is) starts_too) (draws.within, draws.whole);
       unopened = λ main is f un. absurd (opens_fails asked laws main s f (opens main is) un);
     }
+
+-- an action that is no script never ends with a fault of standard input
+pub input_stands : (note : Note) (n : ℕ) → IsBuilt note → Faults Input note n n
+input_stands note n built = record { rose = λ is. absurd (subst IsBuilt is built); stood = λ other. refl }

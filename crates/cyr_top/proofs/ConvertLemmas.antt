@@ -41,6 +41,7 @@ use Rattle.cyr_top.specs.Converting.{AskedConversion, DoesConversion, DoesNotOpe
 use Rattle.cyr_top.specs.Rebuilding.{IsRebuildNote}
 use Rattle.cyr_top.specs.Stated.{IsBuilt, IsUnopened, SamePrints}
 use Rattle.cyr_top.proofs.ActLemmas.{device_of, note_of}
+use Rattle.cyr_top.proofs.JobLemmas.{laws_of}
 use Rattle.cyr_top.proofs.StatedLemmas.{opens_fails, opens_once, unopened_once}
 
 -- ---- notes
@@ -405,10 +406,6 @@ same_prints o p q same told faults = record {
 }
 
 -- ---- jobs
-
-pub laws_of : (backend : Backend) → DbLaws (kind_of backend)
-laws_of Flat = flat_laws
-laws_of Twoskip = skip_laws
 
 -- memory ran out before anything was done
 pub nothing_converted : (from to : Backend) (d s : DiskState) (words : Stream) → IsMoment d → IsMoment s → DoesConversion (converting (kind_of from) (fill_of to)) (with_both d s words) (with_both d s words) Memory

@@ -14,13 +14,13 @@ use Rattle.base_notes.specs.declared.note.Device.TheVariants.{Host}
 use Rattle.base_notes.specs.declared.note.Note.{Note}
 use Rattle.base_notes.specs.declared.note.Note.TheVariants.{Memory}
 use Rattle.db_core.specs.Sessions.{DbLaws, DbState}
-use Rattle.db_tool.specs.Tasks.{KeepsPrefix, task_of}
+use Rattle.db_tool.specs.Tasks.{KeepsPrefix}
 use Rattle.db_tool.specs.ToolNotes.{IsFault, IsCutOff, Faults}
 use Rattle.cyr_top.specs.Actions.{IsBefore, IsStart, StandsAt, EndsAt, opened, not_opened, checked, DoesAction, DrawsFor, but_warned}
-use Rattle.cyr_top.specs.Asked.{Asked, task_for}
+use Rattle.cyr_top.specs.Asked.{Asked, task_by, task_for}
 use Rattle.cyr_top.specs.Crashes.{StartsAt, opened as opens_now, to_make, IsNotMade, LeavesPrefixes, LeavesAtEnd, KeepsPromises}
 use Rattle.cyr_top.specs.Stated.{StartsFrom, StatedResult}
-use Rattle.cyr_top.proofs.StatedLemmas.{starts_once, starts_fails, stated_once, task_plain}
+use Rattle.cyr_top.proofs.StatedLemmas.{note_of_action, starts_once, starts_fails, stated_once, task_plain}
 use Rattle.cyr_top.proofs.ActLemmas.{some_of, read_of, left_at_end}
 
 module _ (asked : Asked) (laws : DbLaws asked.kind) (o p : HostState) (d e : DiskState) (note : Note) (de : GoesOn d e) (moment_d : IsMoment d) (moment_e : IsMoment e) (does : DoesAction asked (moment d o) (moment e p) note) where
@@ -68,7 +68,7 @@ module _ (asked : Asked) (laws : DbLaws asked.kind) (o p : HostState) (d e : Dis
   }
 
   check_none : asked.action ≡ Consistent → (s : DbState) → 0 ≡ length (task_for asked s).transactions
-  check_none check s = subst (λ (a : Action). 0 ≡ length (task_of asked.kind s asked.given a).transactions) (sym check) refl
+  check_none check s = subst (λ (a : Action). 0 ≡ length (task_by a asked.kind s asked.given).transactions) (sym check) refl
 
   ends_by : (s : DbState) → Shows d → (IsFault note → ⊥) → StartsAt asked d s → EndsAt asked d e note → LeavesAtEnd asked s d e note
   ends_by s shows no_fault starts (opened t from st) =
@@ -166,7 +166,7 @@ nothing_done asked m is = record {
   absent = λ make none. record { each = λ c n left was. (is.now c n left).1 };
   made = λ make none. inl (inr refl);
   faults = record { rose = λ no. absurd (cc no); stood = λ _. refl };
-  built = tt;
+  built = note_of_action asked.action Memory tt;
   no_usage = λ no. cc no;
 }
   where

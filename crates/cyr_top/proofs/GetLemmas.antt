@@ -20,7 +20,7 @@ use Rattle.flat_db.specs.declared.showing.Shown.{Shown}
 use Rattle.rand_core.specs.Stream.{Stream}
 use Rattle.cyr_top.specs.Actions.{DoesAction, DrawsFor}
 use Rattle.cyr_top.specs.Asked.{asking}
-use Rattle.cyr_top.proofs.ActLemmas.{opened_does, opened_draws}
+use Rattle.cyr_top.proofs.ActLemmas.{done_of, opened_does, opened_draws}
 
 module _ (laws : DbLaws flat_kind) (key : List ℕ) (value : Option (List ℕ)) (given_words : Given) (o q p : HostState) (d x e : DiskState) (note : Note)
     (dx : GoesOn d x) (xe : GoesOn x e) (moment_x : IsMoment x) (moment_e : IsMoment e) (silent : q ≡ o)
@@ -41,11 +41,11 @@ module _ (laws : DbLaws flat_kind) (key : List ℕ) (value : Option (List ℕ)) 
   task = found_does flat_kind s given_words (moment x q) (moment e p) key value note refl stays has.found looks
 
   pub got_does : DoesAction (asking flat_kind false (Get key) given_words) (moment d o) (moment e p) note
-  got_does = opened_does flat_kind laws (Get key) given_words value s s o q p d x e note dx xe moment_x moment_e (λ is. cc is) silent opens disk stood task
+  got_does = opened_does flat_kind laws (Get key) given_words value s s o q p d x e note dx xe moment_x moment_e (λ is. cc is) silent opens disk stood (done_of flat_kind (Get key) _ _ _ note task)
       (λ _ c left. stays c (looks.disk.keeps.leaves.no_more c left))
 
   pub got_draws : (words : Stream) → DrawsFor (asking flat_kind false (Get key) given_words) d words words note
-  got_draws words = opened_draws flat_kind laws (Get key) given_words value s s o q p d x e note dx xe moment_x moment_e (λ is. cc is) silent opens disk stood task
+  got_draws words = opened_draws flat_kind laws (Get key) given_words value s s o q p d x e note dx xe moment_x moment_e (λ is. cc is) silent opens disk stood (done_of flat_kind (Get key) _ _ _ note task)
       (λ _ c left. stays c (looks.disk.keeps.leaves.no_more c left)) words words (found_draws flat_kind s given_words key words note)
 
 -- ---- a text that is shown as it stands
@@ -77,10 +77,10 @@ module _ (laws : DbLaws flat_kind) (action : Action) (all : action ≡ Show []) 
 
   pub shown_all : DoesAction (asking flat_kind false action given_words) (moment d o) (moment e p) note
   shown_all = subst (λ (a : Action). DoesAction (asking flat_kind false a given_words) (moment d o) (moment e p) note) (sym all)
-      (opened_does flat_kind laws (Show []) given_words from shows shows o q p d x e note dx xe moment_x moment_e (λ is. cc is) silent shows_opens disk stood shows_task
+      (opened_does flat_kind laws (Show []) given_words from shows shows o q p d x e note dx xe moment_x moment_e (λ is. cc is) silent shows_opens disk stood (done_of flat_kind (Show []) _ _ _ note shows_task)
       (λ _ c left. shows_stays c (looks.disk.keeps.leaves.no_more c left)))
 
   pub shown_draws : (words : Stream) → DrawsFor (asking flat_kind false action given_words) d words words note
   shown_draws words = subst (λ (a : Action). DrawsFor (asking flat_kind false a given_words) d words words note) (sym all)
-      (opened_draws flat_kind laws (Show []) given_words from shows shows o q p d x e note dx xe moment_x moment_e (λ is. cc is) silent shows_opens disk stood shows_task
+      (opened_draws flat_kind laws (Show []) given_words from shows shows o q p d x e note dx xe moment_x moment_e (λ is. cc is) silent shows_opens disk stood (done_of flat_kind (Show []) _ _ _ note shows_task)
       (λ _ c left. shows_stays c (looks.disk.keeps.leaves.no_more c left)) words words (record { count = 0; drawn = refl; within = omega arith; whole = inr refl }))

@@ -6,4 +6,5 @@ pub mod GetLemmas
 pub mod JobLemmas
 pub mod MakeLemmas
 pub mod RebuildingLemmas
+pub mod ScriptLemmas
 pub mod StatedLemmas

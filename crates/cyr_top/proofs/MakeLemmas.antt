@@ -26,7 +26,7 @@ use Rattle.rand_core.specs.Stream.{Stream}
 use Rattle.cyr_top.specs.Actions.{IsBefore, KeepsRead, IsStart, EndsAt, opened, not_opened, checked, DoesAction, DrawsFor, IsMade}
 use Rattle.cyr_top.specs.Asked.{Asked, asking, task_for}
 use Rattle.cyr_top.specs.Stated.{StartsFrom, IsUnopened, StatedResult, acted, unopened, made_session}
-use Rattle.cyr_top.proofs.StatedLemmas.{same_bytes, none_opens, opens_fails, task_plain}
+use Rattle.cyr_top.proofs.StatedLemmas.{note_of_action, same_bytes, none_opens, opens_fails, task_plain}
 use Rattle.cyr_top.proofs.ActLemmas.{some_of, left_at_end, image_of}
 
 -- ---- the file is made
@@ -200,7 +200,7 @@ module _ (kind : DbKind) (laws : DbLaws kind) (action : Action) (g : Given) wher
           absent = λ makes none. record { each = λ c n left was. (made.each.each c n left).0 };
           made = λ makes none. inl (inl tt);
           faults = record { rose = λ _. cause.failed; stood = λ not. absurd (not refl) };
-          built = tt;
+          built = note_of_action action (DeviceFault Host) tt;
           no_usage = λ is. cc is;
         }
 

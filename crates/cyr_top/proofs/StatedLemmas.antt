@@ -12,17 +12,19 @@ use Rattle.base_notes.specs.declared.action.Action.TheVariants.{Show, Get, Set, 
 use Rattle.base_notes.specs.declared.note.Device.{Device}
 use Rattle.base_notes.specs.declared.note.Device.TheVariants.{Host}
 use Rattle.base_notes.specs.declared.note.Note.{Note}
-use Rattle.base_notes.specs.declared.note.Note.TheVariants.{Done, Answer, Usage, DeviceFault}
+use Rattle.base_notes.specs.declared.note.Note.TheVariants.{Done, Answer, BadLine, Usage, DeviceFault}
 use Rattle.db_core.specs.Opening.{OpensTo}
 use Rattle.db_core.specs.Sessions.{DbKind, DbLaws, DbState, at_rest}
 use Rattle.db_core.specs.declared.fault.DbFault.{DbFault}
 use Rattle.db_core.specs.declared.fault.DbFault.TheVariants.{Broken, KeyEmpty, KeyTooLong, ValueTooLong, Full, NoMemory, DiskFault}
 use Rattle.db_core.specs.declared.opening.OpenFault.{OpenFault}
 use Rattle.db_core.specs.declared.opening.OpenFault.TheVariants.{Absent as NoFile, TooBig, NoMemory as NoRoom, DiskFault as NoDisk, Damaged as Flawed}
-use Rattle.db_tool.specs.Tasks.{Given, Task, changing_by, lacks_key, task_if}
+use Rattle.db_script.specs.Batch.{IsScriptNote}
+use Rattle.db_tool.specs.Tasks.{CanAct, Given, Task, changing_by, lacks_key, task_if, task_of}
 use Rattle.db_tool.specs.ToolNotes.{IsFault, IsCutOff, change_note, opening_note}
-use Rattle.cyr_top.specs.Asked.{Asked, task_for}
-use Rattle.cyr_top.specs.Stated.{StartsFrom, IsUnopened, StatedResult, acted, unopened, unopened_note, unopened_output, IsBuilt}
+use Rattle.cyr_top.specs.Asked.{Asked, is_done, task_by, task_for}
+use Rattle.cyr_top.specs.Stated.{StartsFrom, IsUnopened, StatedResult, acted, unopened, unopened_note, unopened_output, IsBuilt, IsNoteOf}
+use Rattle.cyr_top.proofs.ScriptLemmas.{script_good, script_silent}
 
 pub same_bytes : (main : Image) (a b : List ℕ) → main ≡ Some a → main ≡ Some b → a ≡ b
 same_bytes main a b first second = cc (first, second)
@@ -98,12 +100,34 @@ module _ (asked : Asked) (laws : DbLaws asked.kind) where
 
 -- ---- what holds of each task that is built
 
--- of a change: nothing is acknowledged before its end, nothing stands at its start where memory runs out, and its note is one of those that are built
-pub record IsPlain (task : Task) : Type 0 where
+-- of an action: nothing is acknowledged before its end, nothing stands at its start where memory runs out, and its note is one of its own
+pub record IsPlain (action : Action) (task : Task) : Type 0 where
   pub none : task.acknowledged 0 ≡ 0
   pub may : task.may_stand 0 0
-  pub built : IsBuilt task.note
+  pub built : IsNoteOf action task.note
   pub no_usage : task.note ≡ Usage → ⊥
+
+-- a note that is built is one of each action
+pub note_of_action : (action : Action) (note : Note) → IsBuilt note → IsNoteOf action note
+note_of_action (Show prefix) note built = built
+note_of_action (Get key) note built = built
+note_of_action (Set key value) note built = built
+note_of_action (Delete key) note built = built
+note_of_action Consistent note built = built
+note_of_action Repack note built = built
+note_of_action Batch note built = inl built
+note_of_action (Exercise rounds) note built = built
+
+-- and where the action is no script there are no others
+pub built_of_action : (action : Action) (note : Note) → is_done action ≡ true → IsNoteOf action note → IsBuilt note
+built_of_action (Show prefix) note done is = is
+built_of_action (Get key) note done is = is
+built_of_action (Set key value) note done is = is
+built_of_action (Delete key) note done is = is
+built_of_action Consistent note done is = is
+built_of_action Repack note done is = is
+built_of_action Batch note done is = absurd (cc done)
+built_of_action (Exercise rounds) note done is = is
 
 refused_built : (fault : DbFault) → IsBuilt (change_note Host fault)
 refused_built Broken = tt
@@ -123,9 +147,9 @@ refused_no_usage (Full n) is = cc is
 refused_no_usage NoMemory is = cc is
 refused_no_usage DiskFault is = cc is
 
-change_plain : (owed : Option DbFault) (kind : DbKind) (s : DbState) (change : Change) (words : ℕ) → IsPlain (changing_by owed kind s change words)
-change_plain None kind s change words = record { none = refl; may = (refl, refl); built = tt; no_usage = λ is. cc is }
-change_plain (Some fault) kind s change words = record { none = refl; may = (refl, refl); built = refused_built fault; no_usage = refused_no_usage fault }
+change_plain : (action : Action) (owed : Option DbFault) (kind : DbKind) (s : DbState) (change : Change) (words : ℕ) → IsPlain action (changing_by owed kind s change words)
+change_plain action None kind s change words = record { none = refl; may = (refl, refl); built = note_of_action action Done tt; no_usage = λ is. cc is }
+change_plain action (Some fault) kind s change words = record { none = refl; may = (refl, refl); built = note_of_action action (change_note Host fault) (refused_built fault); no_usage = refused_no_usage fault }
 
 answer_built : (b : Bool) → IsBuilt (if b then Done else Answer)
 answer_built true = tt
@@ -135,19 +159,42 @@ answer_no_usage : (b : Bool) → (if b then Done else Answer) ≡ Usage → ⊥
 answer_no_usage true is = cc is
 answer_no_usage false is = cc is
 
-plain_by : (kind : DbKind) (s : DbState) (g : Given) (b : Bool) (a : Action) → IsPlain (task_if b kind s g a)
-plain_by kind s g true a = record { none = refl; may = (refl, refl); built = tt; no_usage = λ is. cc is }
+plain_by : (kind : DbKind) (s : DbState) (g : Given) (b : Bool) (a : Action) → IsPlain a (task_if b kind s g a)
+plain_by kind s g true a = record { none = refl; may = (refl, refl); built = note_of_action a (BadLine 1) tt; no_usage = λ is. cc is }
 plain_by kind s g false (Show prefix) = record { none = refl; may = (refl, refl); built = tt; no_usage = λ is. cc is }
 plain_by kind s g false (Get key) = record { none = refl; may = (refl, refl); built = answer_built (is_some (value_at s.seen key)); no_usage = answer_no_usage (is_some (value_at s.seen key)) }
-plain_by kind s g false (Set key value) = change_plain _ kind s (Put (next_u32 g.words).0 key value) 1
-plain_by kind s g false (Delete key) = change_plain _ kind s (Del key) 0
+plain_by kind s g false (Set key value) = change_plain (Set key value) _ kind s (Put (next_u32 g.words).0 key value) 1
+plain_by kind s g false (Delete key) = change_plain (Delete key) _ kind s (Del key) 0
 plain_by kind s g false Consistent = record { none = refl; may = (refl, refl); built = tt; no_usage = λ is. cc is }
 plain_by kind s g false Repack = record { none = refl; may = (refl, refl); built = tt; no_usage = λ is. cc is }
-plain_by kind s g false Batch = record { none = refl; may = (refl, refl); built = tt; no_usage = λ is. cc is }
+plain_by kind s g false Batch = record { none = refl; may = (refl, refl); built = inl tt; no_usage = λ is. cc is }
 plain_by kind s g false (Exercise rounds) = record { none = refl; may = (refl, refl); built = tt; no_usage = λ is. cc is }
 
-pub task_plain : (asked : Asked) (s : DbState) → IsPlain (task_for asked s)
-task_plain asked s = plain_by asked.kind s asked.given (lacks_key asked.action) asked.action
+plain_of : (a : Action) (kind : DbKind) (s : DbState) (g : Given) → IsPlain a (task_by a kind s g)
+plain_of (Show prefix) kind s g = plain_by kind s g false (Show prefix)
+plain_of (Get key) kind s g = plain_by kind s g (lacks_key (Get key)) (Get key)
+plain_of (Set key value) kind s g = plain_by kind s g (lacks_key (Set key value)) (Set key value)
+plain_of (Delete key) kind s g = plain_by kind s g (lacks_key (Delete key)) (Delete key)
+plain_of Consistent kind s g = plain_by kind s g false Consistent
+plain_of Repack kind s g = plain_by kind s g false Repack
+plain_of Batch kind s g =
+    let good = script_good kind s g.words g.script in
+    record { none = script_silent kind s g.words g.script; may = omega (arith, script_silent kind s g.words g.script); built = inr good; no_usage = λ is. subst IsScriptNote is good }
+plain_of (Exercise rounds) kind s g = plain_by kind s g false (Exercise rounds)
+
+pub task_plain : (asked : Asked) (s : DbState) → IsPlain asked.action (task_for asked s)
+task_plain asked s = plain_of asked.action asked.kind s asked.given
+
+-- the task of an action that is no script
+pub done_task : (a : Action) (kind : DbKind) (s : DbState) (g : Given) → CanAct a → task_of kind s g a ≡ task_by a kind s g
+done_task (Show prefix) kind s g can = refl
+done_task (Get key) kind s g can = refl
+done_task (Set key value) kind s g can = refl
+done_task (Delete key) kind s g can = refl
+done_task Consistent kind s g can = refl
+done_task Repack kind s g can = refl
+done_task Batch kind s g can = absurd can
+done_task (Exercise rounds) kind s g can = refl
 
 pub opening_built : (fault : OpenFault) → IsBuilt (opening_note Host fault)
 opening_built NoFile = tt

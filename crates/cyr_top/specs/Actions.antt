@@ -15,7 +15,7 @@ use Rattle.db_tool.specs.Tasks.{KeepsPrefix, KeepsUpTo, words_after}
 use Rattle.db_tool.specs.ToolNotes.{IsFault, IsCutOff, Faults}
 use Rattle.rand_core.specs.Stream.{Stream}
 use Rattle.cyr_top.specs.Asked.{Asked, task_for}
-use Rattle.cyr_top.specs.Stated.{StartsFrom, IsUnopened, StatedResult, IsBuilt}
+use Rattle.cyr_top.specs.Stated.{StartsFrom, IsUnopened, StatedResult, IsNoteOf}
 
 -- ---- what is left
 
@@ -86,7 +86,7 @@ pub record DoesAction (asked : Asked) (old new : HostMoment) (note : Note) : Typ
   pub made : asked.make ≡ true → IsAbsent old.disk → IsCutOff note ⊎ (new.disk.leaves None → ⊥)
   -- the host failed exactly where the note says so
   pub faults : Faults Host note old.disk.faults new.disk.faults
-  pub built : IsBuilt note
+  pub built : IsNoteOf asked.action note
   pub no_usage : note ≡ Usage → ⊥
 
 -- the end of a run, but for what standard error got

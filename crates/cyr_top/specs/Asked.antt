@@ -1,16 +1,18 @@
 -- What a command line asks of a database, and which jobs are built. What it asks of a folder stands in Rebuilding, and of two
 -- files in Converting.
-use Rattle.std.specs.Prelude.{◌≡◌, Bool, true, false, List, ℕ, Option, None, Some, option_and_then, if◌then◌else◌}
+use Rattle.std.specs.Prelude.{◌≡◌, Bool, true, false, List, [], ℕ, Option, None, Some, option_and_then, if◌then◌else◌}
 use Rattle.base_notes.specs.declared.action.Action.{Action}
-use Rattle.base_notes.specs.declared.action.Action.TheVariants.{Consistent, Show, Get, Set, Delete}
+use Rattle.base_notes.specs.declared.action.Action.TheVariants.{Batch, Consistent, Show, Get, Set, Delete}
 use Rattle.base_notes.specs.declared.action.Backend.{Backend}
 use Rattle.base_notes.specs.declared.action.Backend.TheVariants.{Flat, Twoskip}
 use Rattle.db_core.specs.Sessions.{DbKind, DbState}
 use Rattle.db_fill.specs.Filling.{FillKind}
-use Rattle.db_tool.specs.Tasks.{Given, Task, task_of}
+use Rattle.db_script.specs.Scripts.{script_task}
+use Rattle.db_tool.specs.Tasks.{Given, Task, given, task_of}
 use Rattle.flat_db.specs.Filling.{flat_fill}
 use Rattle.flat_db.specs.Sessions.{flat_kind}
 use Rattle.skip_kind.specs.Kind.{skip_kind}
+use Rattle.rand_core.specs.Stream.{Stream}
 use Rattle.tool_words.specs.JobOf.{job_of}
 use Rattle.tool_words.specs.declared.jobs.Job.{Job}
 use Rattle.tool_words.specs.declared.jobs.Job.TheVariants.{Convert, Dbtool, Reconstruct}
@@ -26,9 +28,14 @@ pub record Asked : Type 1 where
 abbrev pub asking : DbKind → Bool → Action → Given → Asked
 asking kind make action given = record { kind = kind; make = make; action = action; given = given }
 
+-- the task of an action: that of the lines of a script, or of one action
+abbrev pub task_by : Action → DbKind → DbState → Given → Task
+task_by Batch kind s given = script_task kind s given.words given.script
+task_by action kind s given = task_of kind s given action
+
 -- the task that is asked for, over the session with which the database opens
 abbrev pub task_for : Asked → DbState → Task
-task_for asked s = task_of asked.kind s asked.given asked.action
+task_for asked s = task_by asked.action asked.kind s asked.given
 
 -- ---- backends: this is the one place that chooses the kind of a file
 
@@ -50,8 +57,15 @@ is_done (Delete key) = true
 is_done Consistent = true
 is_done action = false
 
+abbrev pub reads_script : Action → Bool
+reads_script Batch = true
+reads_script action = false
+
+abbrev pub is_ready : Action → Bool
+is_ready action = if reads_script action then true else is_done action
+
 abbrev pub is_built : Job → Bool
-is_built (Dbtool make file backend action) = is_done action
+is_built (Dbtool make file backend action) = is_ready action
 is_built (Convert from from_kind to to_kind) = true
 is_built (Reconstruct options folder) = true
 is_built job = false
@@ -63,11 +77,44 @@ if_built job = if is_built job then Some job else None
 abbrev pub built_job_of : List (List ℕ) → Option Job
 built_job_of words = option_and_then if_built (job_of words)
 
+-- ---- what a run is given besides its words and its files
+
+-- the random words to come, and what standard input has left where it shows that
+pub record Inputs : Type 0 where
+  pub words : Stream
+  pub left : Option (List ℕ)
+
+abbrev pub inputs : Stream → Option (List ℕ) → Inputs
+inputs words left = record { words = words; left = left }
+
+-- P holds of the script that an action reads, where its source shows it; the other actions read none
+abbrev pub OnScript : Action → Option (List ℕ) → (List ℕ → Type 0) → Type 0
+OnScript Batch left P = (script : List ℕ) → left ≡ Some script → P script
+OnScript action left P = P []
+
 -- P holds of a job over one database, by the kind of its backend
-abbrev pub OnDatabase : Given → (Asked → Type 0) → Job → Type 0
-OnDatabase given P (Dbtool make file backend action) = P (asking (kind_of backend) make action given)
-OnDatabase given P job = Unit {0}
+abbrev pub OnDatabase : Inputs → (Asked → Type 0) → Job → Type 0
+OnDatabase given_by P (Dbtool make file backend action) = OnScript action given_by.left (λ script. P (asking (kind_of backend) make action (given given_by.words script)))
+OnDatabase given_by P job = Unit {0}
 
 -- P holds of what the words ask of a database
-abbrev pub WhereAsked : List (List ℕ) → Given → (Asked → Type 0) → Type 0
-WhereAsked words given P = (job : Job) → built_job_of words ≡ Some job → OnDatabase given P job
+abbrev pub WhereAsked : List (List ℕ) → Inputs → (Asked → Type 0) → Type 0
+WhereAsked words given_by P = (job : Job) → built_job_of words ≡ Some job → OnDatabase given_by P job
+
+-- P holds of a job over one database, whatever its input
+abbrev pub OnOneDatabase : Type 0 → Job → Type 0
+OnOneDatabase P (Dbtool make file backend action) = P
+OnOneDatabase P job = Unit {0}
+
+-- P holds of an action that does not read standard input, and of a job that does not
+abbrev pub IfUnread : Type 0 → Action → Type 0
+IfUnread P Batch = Unit {0}
+IfUnread P action = P
+
+abbrev pub IfUnasked : Type 0 → Job → Type 0
+IfUnasked P (Dbtool make file backend action) = IfUnread P action
+IfUnasked P job = P
+
+-- P holds of the job of the words, where it is built
+abbrev pub WhereBuilt : List (List ℕ) → (Job → Type 0) → Type 0
+WhereBuilt words P = (job : Job) → built_job_of words ≡ Some job → P job

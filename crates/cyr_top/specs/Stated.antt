@@ -6,7 +6,7 @@ use Rattle.base_devices.specs.CrashImages.{Image, DiskState}
 use Rattle.base_devices.specs.HostCalls.{HostState, told_with}
 use Rattle.base_notes.specs.Notes.{note_text}
 use Rattle.base_notes.specs.declared.action.Action.{Action}
-use Rattle.base_notes.specs.declared.action.Action.TheVariants.{Consistent}
+use Rattle.base_notes.specs.declared.action.Action.TheVariants.{Batch, Consistent}
 use Rattle.base_notes.specs.declared.note.Device.TheVariants.{Host}
 use Rattle.base_notes.specs.declared.note.LimitName.TheVariants.{Key, Value, File}
 use Rattle.base_notes.specs.declared.note.Note.{Note}
@@ -15,6 +15,7 @@ use Rattle.db_core.specs.Opening.{OpensTo, IsOpenRefusal}
 use Rattle.db_core.specs.Sessions.{DbState, at_rest}
 use Rattle.db_core.specs.declared.opening.OpenFault.{OpenFault}
 use Rattle.db_core.specs.declared.opening.OpenFault.TheVariants.{Absent as NoFile, NoMemory as NoRoom, DiskFault as NoDisk, Damaged as Flawed}
+use Rattle.db_script.specs.Batch.{IsScriptNote}
 use Rattle.db_tool.specs.ToolNotes.{Faults, opening_note}
 use Rattle.cyr_top.specs.Asked.{Asked, task_for}
 use Rattle.cyr_top.specs.Converting.{IsConversionNote}
@@ -56,7 +57,7 @@ pub data StatedResult (asked : Asked) (main : Image) (note : Note) (output : Lis
   acted : (s : DbState) → StartsFrom asked main s → note ≡ (task_for asked s).note → output ≡ (task_for asked s).output → StatedResult asked main note output
   unopened : (fault : OpenFault) → IsUnopened asked main fault → note ≡ unopened_note asked.action fault → output ≡ unopened_output asked.action fault → StatedResult asked main note output
 
--- The notes of the actions that are built, and of words that give no job. Of the devices only the host is used.
+-- The notes of the actions that are built, but for scripts, and of words that give no job. Of the devices only the host is used.
 abbrev pub IsBuilt : Note → Type 0
 IsBuilt Done = Unit {0}
 IsBuilt Answer = Unit {0}
@@ -71,11 +72,16 @@ IsBuilt Memory = Unit {0}
 IsBuilt (Damaged _ _) = Unit {0}
 IsBuilt note = ⊥
 
+-- the notes of an action
+abbrev pub IsNoteOf : Action → Note → Type 0
+IsNoteOf Batch note = IsBuilt note ⊎ IsScriptNote note
+IsNoteOf action note = IsBuilt note
+
 -- ---- what every run keeps
 
--- the note of a built action, of a conversion or of a rebuild, and the host failed exactly where it says so
+-- the note of a built action, of a script, of a conversion or of a rebuild, and the host failed exactly where it says so
 pub record Ran (note : Note) (old new : DiskState) : Type 0 where
-  pub built : IsBuilt note ⊎ IsConversionNote note ⊎ IsRebuildNote note
+  pub built : IsBuilt note ⊎ IsScriptNote note ⊎ IsConversionNote note ⊎ IsRebuildNote note
   pub faults : Faults Host note old.faults new.faults
 
 -- standard error gets the note's text, or the host ceases to show what it got

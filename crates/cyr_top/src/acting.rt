@@ -19,8 +19,10 @@ use db_tool::{HOST_FAULT, act, note_of_opening};
 use rand_core::Rng;
 use std::alloc::Global;
 
-// Makes the main file where it is absent.
-fn make_absent<H: Host, B: Db<H> + Drop, F: Files<H, B>>(host: &mut H) -> Result<(), Failed>
+/// Makes the main file where it is absent.
+pub(crate) fn make_absent<H: Host, B: Db<H> + Drop, F: Files<H, B>>(
+    host: &mut H,
+) -> Result<(), Failed>
     ensures made { IsMade B.kind (H.state host.old) (H.state host.new) result }
     ensures cause { HasCause (H.state host.old).faults (H.state host.new).faults result }
     ensures rest { H.disk_rest host.old host.new }

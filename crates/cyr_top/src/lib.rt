@@ -5,6 +5,7 @@
 //!   acting     an action over a file: made, checked, or opened and done
 //!   getting    the same by what a backend is best at: one value is looked for in flat text, and no map is made
 //!   checking   the line that a check prints
+//!   scripting  a script of standard input is done over a file
 //!   converting a database becomes a new file of the other kind
 //!   rebuilding the index of a folder is rebuilt
 //! What a run owes stands in specs/: Asked (what the words ask), Stated (note and output), Actions (what is left),
@@ -18,6 +19,7 @@ mod files;
 mod getting;
 mod rebuilding;
 mod running;
+mod scripting;
 
 pub use converting::convert;
 pub use running::{run, run_job};

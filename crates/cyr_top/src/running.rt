@@ -5,63 +5,64 @@ ghost use Rattle.base_devices.specs.Frames.{SameDisk};
 ghost use Rattle.base_devices.specs.HostCalls.{moment, told_with};
 ghost use Rattle.base_devices.specs.SpoolCalls.{GaveNoName, shown_files};
 ghost use Rattle.base_notes.specs.Notes.{status_of};
-ghost use Rattle.base_notes.specs.declared.note.Device.TheVariants.{Second as SecondDevice, Spool as SpoolDevice};
+ghost use Rattle.base_notes.specs.declared.note.Device.TheVariants.{Input as InputDevice, Second as SecondDevice, Spool as SpoolDevice};
 ghost use Rattle.base_notes.specs.declared.note.Note.{Note};
 ghost use Rattle.cyr_top.specs.Actions.{DoesAction, DrawsFor, but_warned};
-ghost use Rattle.cyr_top.specs.Asked.{WhereAsked, OnDatabase, built_job_of, is_built, is_done};
+ghost use Rattle.cyr_top.specs.Asked.{IfUnasked, OnDatabase, OnOneDatabase, WhereAsked, WhereBuilt, built_job_of, inputs, is_built, is_ready};
 ghost use Rattle.cyr_top.specs.Converting.{DoesConversion, OnConversion, WhereConverting, with_both};
 ghost use Rattle.cyr_top.specs.Crashes.{StartsAt, LeavesPrefixes, LeavesAtEnd, KeepsPromises};
 ghost use Rattle.cyr_top.specs.Rebuilding.{DoesRebuild, OnFolder, WhereRebuilding, rebuild_of};
 ghost use Rattle.cyr_top.specs.Stated.{StatedResult, Ran, Warns, SamePrints};
 ghost use Rattle.db_core.specs.Sessions.{DbState};
-ghost use Rattle.db_tool.specs.Tasks.{given};
 ghost use Rattle.db_tool.specs.ToolNotes.{Faults, IsFault, IsCutOff};
 
-use crate::acting::on_files;
 use crate::converting::convert;
-use crate::files::{FlatFiles, TwoskipFiles};
 use crate::rebuilding::reconstruct;
+use crate::scripting::on_backend;
 use base_devices::{Disk, Host, Spool};
-use base_notes::{Action, Backend, Note, Outcome};
-use flat_db::FlatDb;
+use base_notes::{Action, Note, Outcome};
+use base_source::Source;
 use rand_core::Rng;
 use std::alloc::Global;
 use tool_words::{Job, WordFault, job};
-use twoskip::Twoskip;
 
 // Whether an action is built.
 fn can_do(action: &Action) -> bool
-    ensures { result ≡ is_done action.now }
+    ensures { result ≡ is_ready action.now }
 {
     match action {
         Action::Show { .. }
         | Action::Get { .. }
         | Action::Set { .. }
         | Action::Delete { .. }
-        | Action::Consistent => true,
-        Action::Repack | Action::Batch | Action::Exercise { .. } => false,
+        | Action::Consistent
+        | Action::Batch => true,
+        Action::Repack | Action::Exercise { .. } => false,
     }
 }
 
-// Does a job, where it is built: here the backend is chosen.
-fn do_job<H: Host, D: Disk, S: Spool, R: Rng>(
+// Does a job, where it is built.
+fn do_job<H: Host, D: Disk, S: Spool, I: Source, R: Rng>(
     alloc: Global,
     job: &Job,
     host: &mut H,
     second: &mut D,
     spool: &mut S,
+    input: &mut I,
     now: u64,
     rng: &mut R,
 ) -> Note
     requires { GaveNoName (S.state spool.old) }
-    ensures does { is_built job.now ≡ true → OnDatabase (given (R.stream rng.old) [])
+    ensures does { is_built job.now ≡ true → OnDatabase
+        (inputs (R.stream rng.old) (I.state input.old).left)
         (λ asked. DoesAction asked (moment (H.state host.old) (H.streams host.old))
         (moment (H.state host.new) (H.streams host.new)) result) job.now }
-    ensures draws { is_built job.now ≡ true → OnDatabase (given (R.stream rng.old) [])
+    ensures draws { is_built job.now ≡ true → OnDatabase
+        (inputs (R.stream rng.old) (I.state input.old).left)
         (λ asked. DrawsFor asked (H.state host.old) (R.stream rng.old) (R.stream rng.new) result)
         job.now }
-    ensures unread { is_built job.now ≡ true → OnDatabase (given (R.stream rng.old) [])
-        (λ _. (spool.new ≡ spool.old) × (second.new ≡ second.old)) job.now }
+    ensures unread { OnOneDatabase ((spool.new ≡ spool.old) × (second.new ≡ second.old)) job.now }
+    ensures unasked { IfUnasked (input.new ≡ input.old) job.now }
     ensures rebuilds { OnFolder (λ options. DoesRebuild (rebuild_of (S.state spool.old) now options)
         (moment (H.state host.old) (H.streams host.old))
         (moment (H.state host.new) (H.streams host.new)) result) job.now }
@@ -72,13 +73,16 @@ fn do_job<H: Host, D: Disk, S: Spool, R: Rng>(
         (with_both (H.state host.new) (D.state second.new) (R.stream rng.new)) result) job.now }
     ensures silent { OnConversion (λ _. (H.streams host.new ≡ H.streams host.old)
         × (spool.new ≡ spool.old)) job.now }
+    ensures asked { is_built job.now ≡ true → result ≡ Note.Usage → ⊥ }
     ensures ran { Ran result (H.state host.old) (H.state host.new) }
     ensures second_faults { Faults SecondDevice result (D.state second.old).faults
         (D.state second.new).faults }
     ensures spool_faults { Faults SpoolDevice result (S.state spool.old).faults
         (S.state spool.new).faults }
+    ensures input_faults { Faults InputDevice result (I.state input.old).faults
+        (I.state input.new).faults }
     ensures usage { is_built job.now ≡ false → (result ≡ Note.Usage) × (host.new ≡ host.old)
-        × (second.new ≡ second.old) × (spool.new ≡ spool.old)
+        × (second.new ≡ second.old) × (spool.new ≡ spool.old) × (input.new ≡ input.old)
         × (R.stream rng.new ≡ R.stream rng.old) }
     ensures warned { (H.streams host.new).warned ≡ (H.streams host.old).warned }
     ensures files { shown_files (S.state spool.new) ≡ shown_files (S.state spool.old) }
@@ -89,20 +93,10 @@ fn do_job<H: Host, D: Disk, S: Spool, R: Rng>(
     match job {
         Job::Dbtool {
             make,
-            backend: Backend::Flat,
+            backend,
             action,
             ..
-        } if can_do(action) => {
-            on_files::<H, FlatDb, FlatFiles, R>(alloc, *make, action, host, rng)
-        }
-        Job::Dbtool {
-            make,
-            backend: Backend::Twoskip,
-            action,
-            ..
-        } if can_do(action) => {
-            on_files::<H, Twoskip, TwoskipFiles, R>(alloc, *make, action, host, rng)
-        }
+        } if can_do(action) => on_backend(alloc, *make, *backend, action, host, input, rng),
         Job::Convert {
             from_kind,
             to_kind,
@@ -114,23 +108,27 @@ fn do_job<H: Host, D: Disk, S: Spool, R: Rng>(
 }
 
 // Does what the words ask for.
-fn do_words<H: Host, D: Disk, S: Spool, R: Rng>(
+fn do_words<H: Host, D: Disk, S: Spool, I: Source, R: Rng>(
     alloc: Global,
     words: &[String],
     host: &mut H,
     second: &mut D,
     spool: &mut S,
+    input: &mut I,
     now: u64,
     rng: &mut R,
 ) -> Note
     requires { GaveNoName (S.state spool.old) }
-    ensures does { WhereAsked (map string_bytes words.now) (given (R.stream rng.old) [])
+    ensures does { WhereAsked (map string_bytes words.now)
+        (inputs (R.stream rng.old) (I.state input.old).left)
         (λ asked. DoesAction asked (moment (H.state host.old) (H.streams host.old))
         (moment (H.state host.new) (H.streams host.new)) result) }
-    ensures draws { WhereAsked (map string_bytes words.now) (given (R.stream rng.old) [])
+    ensures draws { WhereAsked (map string_bytes words.now)
+        (inputs (R.stream rng.old) (I.state input.old).left)
         (λ asked. DrawsFor asked (H.state host.old) (R.stream rng.old) (R.stream rng.new) result) }
-    ensures unread { WhereAsked (map string_bytes words.now) (given (R.stream rng.old) [])
-        (λ _. (spool.new ≡ spool.old) × (second.new ≡ second.old)) }
+    ensures unread { WhereBuilt (map string_bytes words.now)
+        (OnOneDatabase ((spool.new ≡ spool.old) × (second.new ≡ second.old))) }
+    ensures unasked { WhereBuilt (map string_bytes words.now) (IfUnasked (input.new ≡ input.old)) }
     ensures rebuilds { WhereRebuilding (map string_bytes words.now)
         (λ options. DoesRebuild (rebuild_of (S.state spool.old) now options)
         (moment (H.state host.old) (H.streams host.old))
@@ -147,10 +145,12 @@ fn do_words<H: Host, D: Disk, S: Spool, R: Rng>(
         (D.state second.new).faults }
     ensures spool_faults { Faults SpoolDevice result (S.state spool.old).faults
         (S.state spool.new).faults }
+    ensures input_faults { Faults InputDevice result (I.state input.old).faults
+        (I.state input.new).faults }
     ensures usage { result ≡ Note.Usage → built_job_of (map string_bytes words.now) ≡ None }
     ensures none { built_job_of (map string_bytes words.now) ≡ None
         → ((result ≡ Note.Usage) ⊎ (result ≡ Note.Memory)) × (host.new ≡ host.old)
-        × (second.new ≡ second.old) × (spool.new ≡ spool.old)
+        × (second.new ≡ second.old) × (spool.new ≡ spool.old) × (input.new ≡ input.old)
         × (R.stream rng.new ≡ R.stream rng.old) }
     ensures warned { (H.streams host.new).warned ≡ (H.streams host.old).warned }
     ensures files { shown_files (S.state spool.new) ≡ shown_files (S.state spool.old) }
@@ -159,7 +159,7 @@ fn do_words<H: Host, D: Disk, S: Spool, R: Rng>(
     ensures spool_rest { S.spool_rest spool.old spool.new }
 {
     match job(alloc, words) {
-        Ok(job) => do_job(alloc, &job, host, second, spool, now, rng),
+        Ok(job) => do_job(alloc, &job, host, second, spool, input, now, rng),
         Err(WordFault::Usage) => Note::Usage,
         Err(WordFault::NoMemory) => Note::Memory,
     }
@@ -183,21 +183,24 @@ fn end_run<H: Host>(host: &mut H, note: Note) -> Outcome
 }
 
 /// Does a job that was read from the words before, as `run` does, and ends with its note and status.
-pub fn run_job<H: Host, D: Disk, S: Spool, R: Rng>(
+pub fn run_job<H: Host, D: Disk, S: Spool, I: Source, R: Rng>(
     alloc: Global,
     job: &Job,
     host: &mut H,
     second: &mut D,
     spool: &mut S,
+    input: &mut I,
     now: u64,
     rng: &mut R,
 ) -> Outcome
     requires { GaveNoName (S.state spool.old) }
-    ensures promises { is_built job.now ≡ true → OnDatabase (given (R.stream rng.old) [])
+    ensures promises { is_built job.now ≡ true → OnDatabase
+        (inputs (R.stream rng.old) (I.state input.old).left)
         (λ asked. KeepsPromises asked (moment (H.state host.old) (H.streams host.old))
         (but_warned (H.state host.new) (H.streams host.old) (H.streams host.new)) result.note)
         job.now }
-    ensures draws { is_built job.now ≡ true → OnDatabase (given (R.stream rng.old) [])
+    ensures draws { is_built job.now ≡ true → OnDatabase
+        (inputs (R.stream rng.old) (I.state input.old).left)
         (λ asked. DrawsFor asked (H.state host.old) (R.stream rng.old) (R.stream rng.new)
         result.note) job.now }
     ensures rebuilds { OnFolder (λ options. DoesRebuild (rebuild_of (S.state spool.old) now options)
@@ -220,13 +223,15 @@ pub fn run_job<H: Host, D: Disk, S: Spool, R: Rng>(
         (D.state second.new).faults }
     ensures spool_faults { Faults SpoolDevice result.note (S.state spool.old).faults
         (S.state spool.new).faults }
+    ensures input_faults { Faults InputDevice result.note (I.state input.old).faults
+        (I.state input.new).faults }
     ensures warned { Warns result.note (H.streams host.old) (H.streams host.new) }
     ensures files { shown_files (S.state spool.new) ≡ shown_files (S.state spool.old) }
     ensures rest { H.host_rest host.old host.new }
     ensures second_rest { D.disk_rest second.old second.new }
     ensures spool_rest { S.spool_rest spool.old spool.new }
 {
-    let note = do_job(alloc, job, host, second, spool, now, rng);
+    let note = do_job(alloc, job, host, second, spool, input, now, rng);
     end_run(host, note)
 }
 
@@ -234,13 +239,15 @@ pub fn run_job<H: Host, D: Disk, S: Spool, R: Rng>(
 ///
 /// `words` are the command line without the program's own name. The note's text goes to standard error. Words that
 /// stand for no job that is built end with `usage`. `second` is the new file of a conversion, the spool the folder that a
-/// rebuild reads, and `now` its time in seconds since 1970. `docs/guarantees.md` says what each clause means for a file.
-pub fn run<H: Host, D: Disk, S: Spool, R: Rng>(
+/// rebuild reads, `input` the script of `batch`, and `now` the time in seconds since 1970. `docs/guarantees.md` says what
+/// each clause means for a file.
+pub fn run<H: Host, D: Disk, S: Spool, I: Source, R: Rng>(
     alloc: Global,
     words: &[String],
     host: &mut H,
     second: &mut D,
     spool: &mut S,
+    input: &mut I,
     now: u64,
     rng: &mut R,
 ) -> Outcome
@@ -249,30 +256,36 @@ pub fn run<H: Host, D: Disk, S: Spool, R: Rng>(
     // Where the run starts from one map, each image that is left, wherever the run stops, opens to the map after a
     // prefix of its committed transactions that holds every acknowledged one, none in part; and at an end without a
     // fault of a device to the map after all of them, unless memory ran out.
-    ensures crash { WhereAsked (map string_bytes words.now) (given (R.stream rng.old) [])
+    ensures crash { WhereAsked (map string_bytes words.now)
+        (inputs (R.stream rng.old) (I.state input.old).left)
         (λ asked. (s : DbState) → StartsAt asked (H.state host.old) s
         → LeavesPrefixes asked s (H.state host.old) (H.state host.new)) }
-    ensures end { WhereAsked (map string_bytes words.now) (given (R.stream rng.old) [])
+    ensures end { WhereAsked (map string_bytes words.now)
+        (inputs (R.stream rng.old) (I.state input.old).left)
         (λ asked. (s : DbState) → Shows (H.state host.old) → ¬ IsFault result.note
         → StartsAt asked (H.state host.old) s
         → LeavesAtEnd asked s (H.state host.old) (H.state host.new) result.note) }
 
     // Whatever note and output are stated for the file, the run ends with them, unless it was cut off.
-    ensures exactly { WhereAsked (map string_bytes words.now) (given (R.stream rng.old) [])
+    ensures exactly { WhereAsked (map string_bytes words.now)
+        (inputs (R.stream rng.old) (I.state input.old).left)
         (λ asked. WhereRead (H.state host.old) (λ main. (wanted : Note) (output : List ℕ)
         → StatedResult asked main wanted output → IsCutOff result.note ⊎ ((result.note ≡ wanted)
         × ((H.streams host.new).told ≡ told_with (H.streams host.old).told output)))) }
 
     // What else is owed of an action: what is left of a file at each moment and at each end, also where it does not
     // open; which calls are not made; and the random words that are drawn.
-    ensures does { WhereAsked (map string_bytes words.now) (given (R.stream rng.old) [])
+    ensures does { WhereAsked (map string_bytes words.now)
+        (inputs (R.stream rng.old) (I.state input.old).left)
         (λ asked. DoesAction asked (moment (H.state host.old) (H.streams host.old))
         (but_warned (H.state host.new) (H.streams host.old) (H.streams host.new)) result.note) }
-    ensures draws { WhereAsked (map string_bytes words.now) (given (R.stream rng.old) [])
+    ensures draws { WhereAsked (map string_bytes words.now)
+        (inputs (R.stream rng.old) (I.state input.old).left)
         (λ asked. DrawsFor asked (H.state host.old) (R.stream rng.old) (R.stream rng.new)
         result.note) }
-    ensures unread { WhereAsked (map string_bytes words.now) (given (R.stream rng.old) [])
-        (λ _. (spool.new ≡ spool.old) × (second.new ≡ second.old)) }
+    ensures unread { WhereBuilt (map string_bytes words.now)
+        (OnOneDatabase ((spool.new ≡ spool.old) × (second.new ≡ second.old))) }
+    ensures unasked { WhereBuilt (map string_bytes words.now) (IfUnasked (input.new ≡ input.old)) }
 
     // A rebuild that ends with `Done` printed the stated report and left the stated index; wherever it stops, the index
     // is one that could be left before, or the whole new one. It draws no random words, and no run changes a message.
@@ -298,7 +311,8 @@ pub fn run<H: Host, D: Disk, S: Spool, R: Rng>(
         → ((result.note ≡ Note.Usage) ⊎ (result.note ≡ Note.Memory))
         × SameDisk (H.state host.old) (H.state host.new)
         × SamePrints (H.streams host.old) (H.streams host.new) × (second.new ≡ second.old)
-        × (spool.new ≡ spool.old) × (R.stream rng.new ≡ R.stream rng.old) }
+        × (spool.new ≡ spool.old) × (input.new ≡ input.old)
+        × (R.stream rng.new ≡ R.stream rng.old) }
 
     // A device fault is answered exactly where the count of that device rose, by one; there are no other notes than these;
     // the status is that of the note, and standard error gets its text.
@@ -308,11 +322,13 @@ pub fn run<H: Host, D: Disk, S: Spool, R: Rng>(
         (D.state second.new).faults }
     ensures spool_faults { Faults SpoolDevice result.note (S.state spool.old).faults
         (S.state spool.new).faults }
+    ensures input_faults { Faults InputDevice result.note (I.state input.old).faults
+        (I.state input.new).faults }
     ensures warned { Warns result.note (H.streams host.old) (H.streams host.new) }
     ensures rest { H.host_rest host.old host.new }
     ensures second_rest { D.disk_rest second.old second.new }
     ensures spool_rest { S.spool_rest spool.old spool.new }
 {
-    let note = do_words(alloc, words, host, second, spool, now, rng);
+    let note = do_words(alloc, words, host, second, spool, input, now, rng);
     end_run(host, note)
 }

@@ -4,20 +4,20 @@ use Rattle.base_devices.specs.HostCalls.{moment}
 use Rattle.db_tool.specs.Tasks.{CanAct, given}
 use Rattle.cyr_top.specs.Actions.{DoesAction, DrawsFor}
 use Rattle.cyr_top.specs.Asked.{asking}
-use Rattle.cyr_top.proofs.ActLemmas.{unopened_does, unopened_draws, opened_does, opened_draws}
+use Rattle.cyr_top.proofs.ActLemmas.{acted_draws, acted_of, unopened_does, unopened_draws, opened_does, opened_draws}
 use Rattle.cyr_top.proofs.acting.open_and_act.Goals as goal
 
 pub returns-in-Ok-clause-does : goal.returns-in-Ok-clause-does
 returns-in-Ok-clause-does g c =
     opened_does g.B.Db.kind c.requires.laws c.args.action.now (given (g.R.Rng.stream c.args.rng.now) []) c.in-Ok.db (g.B.Db.state c.in-Ok.db) (g.B.Db.state c.act.new.db) _ _ _ _ _ _ c.act.result.note
     (g.met.H.Disk.rest_goes_on _ _ c.open_db.ensures.rest) (g.met.H.Host.host_goes_on _ _ c.act.ensures.rest) (g.met.H.Disk.is_moment _) (g.met.H.Disk.is_moment _) (λ is. subst CanAct is c.requires.can) (g.met.H.Host.disk_keeps _ _ c.open_db.ensures.rest)
-    c.in-Ok.ensures.opens.opened c.in-Ok.ensures.disk c.in-Ok.ensures.cause.kept c.act.ensures.task (λ sound i left. g.met.B.Db.tie_opens c.act.new.db c.act.new.host sound c.act.ensures.tied i left)
+    c.in-Ok.ensures.opens.opened c.in-Ok.ensures.disk c.in-Ok.ensures.cause.kept (acted_of g.B.Db.kind c.args.action.now (g.B.Db.state c.in-Ok.db) (given (g.R.Rng.stream c.args.rng.now) []) _ _ c.act.result.note c.requires.can c.act.ensures.task) (λ sound i left. g.met.B.Db.tie_opens c.act.new.db c.act.new.host sound c.act.ensures.tied i left)
 
 pub returns-in-Ok-clause-draws : goal.returns-in-Ok-clause-draws
 returns-in-Ok-clause-draws g c =
     opened_draws g.B.Db.kind c.requires.laws c.args.action.now (given (g.R.Rng.stream c.args.rng.now) []) c.in-Ok.db (g.B.Db.state c.in-Ok.db) (g.B.Db.state c.act.new.db) _ _ _ _ _ _ c.act.result.note
     (g.met.H.Disk.rest_goes_on _ _ c.open_db.ensures.rest) (g.met.H.Host.host_goes_on _ _ c.act.ensures.rest) (g.met.H.Disk.is_moment _) (g.met.H.Disk.is_moment _) (λ is. subst CanAct is c.requires.can) (g.met.H.Host.disk_keeps _ _ c.open_db.ensures.rest)
-    c.in-Ok.ensures.opens.opened c.in-Ok.ensures.disk c.in-Ok.ensures.cause.kept c.act.ensures.task (λ sound i left. g.met.B.Db.tie_opens c.act.new.db c.act.new.host sound c.act.ensures.tied i left) _ _ c.act.ensures.words
+    c.in-Ok.ensures.opens.opened c.in-Ok.ensures.disk c.in-Ok.ensures.cause.kept (acted_of g.B.Db.kind c.args.action.now (g.B.Db.state c.in-Ok.db) (given (g.R.Rng.stream c.args.rng.now) []) _ _ c.act.result.note c.requires.can c.act.ensures.task) (λ sound i left. g.met.B.Db.tie_opens c.act.new.db c.act.new.host sound c.act.ensures.tied i left) _ _ (acted_draws g.B.Db.kind c.args.action.now (g.B.Db.state c.in-Ok.db) (given (g.R.Rng.stream c.args.rng.now) []) _ _ c.act.result.note c.requires.can c.act.ensures.words)
 
 pub returns-in-Err-clause-does : goal.returns-in-Err-clause-does
 returns-in-Err-clause-does g c =

@@ -5,11 +5,11 @@ use Rattle.base_notes.specs.declared.note.Note.TheVariants.{Done}
 use Rattle.cyr_top.specs.Actions.{DoesAction, DrawsFor}
 use Rattle.cyr_top.specs.Asked.{asking}
 use Rattle.db_tool.specs.Doing.{Looks}
-use Rattle.db_tool.specs.Tasks.{given}
+use Rattle.db_tool.specs.Tasks.{CanAct, given}
 use Rattle.flat_db.specs.Sessions.{flat_kind, flat_state}
 use Rattle.flat_db.specs.Showing.{ShowsAs}
 use Rattle.flat_db.specs.declared.showing.Shown.{Shown}
-use Rattle.cyr_top.proofs.ActLemmas.{unopened_does, unopened_draws, opened_does, opened_draws}
+use Rattle.cyr_top.proofs.ActLemmas.{acted_draws, acted_of, unopened_does, unopened_draws, opened_does, opened_draws}
 use Rattle.cyr_top.proofs.GetLemmas.{opens_session, shown_all, shown_draws}
 use Rattle.cyr_top.proofs.getting.show_flat.Goals as goal
 
@@ -37,7 +37,7 @@ returns-in-Ok-Session-clause-does g c =
     let shows = subst (λ (f : Shown). ShowsAs (g.H.Disk.state c.args.host.now) f) c.in-Ok-Session.field-0-is met.shows in
     opened_does flat_kind c.requires.laws c.args.action.now (given (g.R.Rng.stream c.args.rng.now) []) db (flat_state db) (flat_state c.act.new.db) _ _ _ _ _ _ c.act.result.note
     (g.met.H.Disk.rest_goes_on _ _ c.open_shown.ensures.rest) (g.met.H.Host.host_goes_on _ _ c.act.ensures.rest) (g.met.H.Disk.is_moment _) (g.met.H.Disk.is_moment _) (λ is. cc (is, c.requires.all)) (g.met.H.Host.disk_keeps _ _ c.open_shown.ensures.rest)
-    shows.opened (opens_session _ _ c.in-Ok-Session.field-0 db met.disk) met.cause.kept c.act.ensures.task (λ sound i left. c.act.ensures.tied.leaves sound i left)
+    shows.opened (opens_session _ _ c.in-Ok-Session.field-0 db met.disk) met.cause.kept (acted_of flat_kind c.args.action.now (flat_state db) (given (g.R.Rng.stream c.args.rng.now) []) _ _ c.act.result.note (subst CanAct (sym c.requires.all) tt) c.act.ensures.task) (λ sound i left. c.act.ensures.tied.leaves sound i left)
 
 pub returns-in-Ok-Session-clause-draws : goal.returns-in-Ok-Session-clause-draws
 returns-in-Ok-Session-clause-draws g c =
@@ -46,7 +46,7 @@ returns-in-Ok-Session-clause-draws g c =
     let shows = subst (λ (f : Shown). ShowsAs (g.H.Disk.state c.args.host.now) f) c.in-Ok-Session.field-0-is met.shows in
     opened_draws flat_kind c.requires.laws c.args.action.now (given (g.R.Rng.stream c.args.rng.now) []) db (flat_state db) (flat_state c.act.new.db) _ _ _ _ _ _ c.act.result.note
     (g.met.H.Disk.rest_goes_on _ _ c.open_shown.ensures.rest) (g.met.H.Host.host_goes_on _ _ c.act.ensures.rest) (g.met.H.Disk.is_moment _) (g.met.H.Disk.is_moment _) (λ is. cc (is, c.requires.all)) (g.met.H.Host.disk_keeps _ _ c.open_shown.ensures.rest)
-    shows.opened (opens_session _ _ c.in-Ok-Session.field-0 db met.disk) met.cause.kept c.act.ensures.task (λ sound i left. c.act.ensures.tied.leaves sound i left) _ _ c.act.ensures.words
+    shows.opened (opens_session _ _ c.in-Ok-Session.field-0 db met.disk) met.cause.kept (acted_of flat_kind c.args.action.now (flat_state db) (given (g.R.Rng.stream c.args.rng.now) []) _ _ c.act.result.note (subst CanAct (sym c.requires.all) tt) c.act.ensures.task) (λ sound i left. c.act.ensures.tied.leaves sound i left) _ _ (acted_draws flat_kind c.args.action.now (flat_state db) (given (g.R.Rng.stream c.args.rng.now) []) _ _ c.act.result.note (subst CanAct (sym c.requires.all) tt) c.act.ensures.words)
 
 pub returns-in-Err-clause-does : goal.returns-in-Err-clause-does
 returns-in-Err-clause-does g c =

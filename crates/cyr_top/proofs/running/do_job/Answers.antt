@@ -1,9 +1,12 @@
-use Rattle.flat_db.proofs.KindLaws.{flat_laws}
-use Rattle.skip_kind.proofs.KindLaws.{skip_laws}
+use Rattle.std.proofs.Common.{sym, subst}
+use Rattle.base_devices.specs.HostCalls.{moment}
+use Rattle.tool_words.specs.declared.jobs.Job.{Job}
+use Rattle.cyr_top.specs.Actions.{DoesAction, DrawsFor}
+use Rattle.cyr_top.specs.Asked.{OnDatabase, inputs}
 use Rattle.cyr_top.proofs.running.do_job.Goals as goal
 
-pub on_files-requires-clause-laws : goal.on_files-requires-clause-laws
-on_files-requires-clause-laws g c = flat_laws
+pub returns-in-Dbtool-clause-does : goal.returns-in-Dbtool-clause-does
+returns-in-Dbtool-clause-does g c = λ built. subst (λ (j : Job). OnDatabase (inputs (g.R.Rng.stream c.args.rng.now) (g.I.Source.state c.args.input.now).left) (λ asked. DoesAction asked (moment (g.H.Disk.state c.args.host.now) (g.H.Host.streams c.args.host.now)) (moment (g.H.Disk.state c.on_backend.new.host) (g.H.Host.streams c.on_backend.new.host)) c.on_backend.result) j) (sym c.in-Dbtool.is) c.on_backend.ensures.does
 
-pub on_files-requires-in-Dbtool-default-default-Twoskip-default-clause-laws : goal.on_files-requires-in-Dbtool-default-default-Twoskip-default-clause-laws
-on_files-requires-in-Dbtool-default-default-Twoskip-default-clause-laws g c = skip_laws
+pub returns-in-Dbtool-clause-draws : goal.returns-in-Dbtool-clause-draws
+returns-in-Dbtool-clause-draws g c = λ built. subst (λ (j : Job). OnDatabase (inputs (g.R.Rng.stream c.args.rng.now) (g.I.Source.state c.args.input.now).left) (λ asked. DrawsFor asked (g.H.Disk.state c.args.host.now) (g.R.Rng.stream c.args.rng.now) (g.R.Rng.stream c.on_backend.new.rng) c.on_backend.result) j) (sym c.in-Dbtool.is) c.on_backend.ensures.draws

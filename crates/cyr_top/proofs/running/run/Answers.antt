@@ -1,10 +1,9 @@
-use Rattle.std.proofs.Common.{◌≡◌, [], sym, subst}
+use Rattle.std.proofs.Common.{◌≡◌, sym, subst}
 use Rattle.base_devices.specs.HostCalls.{moment}
 use Rattle.base_notes.specs.declared.note.Note.{Note}
 use Rattle.db_core.specs.Sessions.{DbLaws}
-use Rattle.db_tool.specs.Tasks.{given}
 use Rattle.cyr_top.specs.Actions.{DoesAction, DrawsFor, but_warned}
-use Rattle.cyr_top.specs.Asked.{Asked}
+use Rattle.cyr_top.specs.Asked.{Asked, inputs}
 use Rattle.cyr_top.specs.Crashes.{KeepsPromises}
 use Rattle.cyr_top.specs.Converting.{DoesConversion, with_both}
 use Rattle.cyr_top.specs.Rebuilding.{DoesRebuild, rebuild_of}
@@ -23,27 +22,27 @@ promises g c asked laws does = subst (λ (n : Note). KeepsPromises asked (moment
     (promised asked laws (g.H.Host.streams c.args.host.now) (g.H.Host.streams c.do_words-note.new.host) (g.H.Host.streams c.end_run.new.host) _ _ _ c.do_words-note.result (g.met.H.Host.host_goes_on _ _ (g.met.H.Host.host_then _ _ _ c.do_words-note.ensures.rest c.end_run.ensures.rest)) (g.met.H.Disk.is_moment _) (g.met.H.Disk.is_moment _) c.end_run.ensures.disk c.end_run.ensures.told c.end_run.ensures.tell_faults does)
 
 pub returns-clause-crash : goal.returns-clause-crash
-returns-clause-crash g c = λ job is. on_job (given (g.R.Rng.stream c.args.rng.now) [])
+returns-clause-crash g c = λ job is. on_job (inputs (g.R.Rng.stream c.args.rng.now) (g.I.Source.state c.args.input.now).left)
     (λ asked. DoesAction asked (moment (g.H.Disk.state c.args.host.now) (g.H.Host.streams c.args.host.now)) (moment (g.H.Disk.state c.do_words-note.new.host) (g.H.Host.streams c.do_words-note.new.host)) c.do_words-note.result)
     _ (λ asked laws does. (promises g c asked laws does).crash) job (c.do_words-note.ensures.does job is)
 
 pub returns-clause-end : goal.returns-clause-end
-returns-clause-end g c = λ job is. on_job (given (g.R.Rng.stream c.args.rng.now) [])
+returns-clause-end g c = λ job is. on_job (inputs (g.R.Rng.stream c.args.rng.now) (g.I.Source.state c.args.input.now).left)
     (λ asked. DoesAction asked (moment (g.H.Disk.state c.args.host.now) (g.H.Host.streams c.args.host.now)) (moment (g.H.Disk.state c.do_words-note.new.host) (g.H.Host.streams c.do_words-note.new.host)) c.do_words-note.result)
     _ (λ asked laws does. (promises g c asked laws does).end) job (c.do_words-note.ensures.does job is)
 
 pub returns-clause-exactly : goal.returns-clause-exactly
-returns-clause-exactly g c = λ job is. on_job (given (g.R.Rng.stream c.args.rng.now) [])
+returns-clause-exactly g c = λ job is. on_job (inputs (g.R.Rng.stream c.args.rng.now) (g.I.Source.state c.args.input.now).left)
     (λ asked. DoesAction asked (moment (g.H.Disk.state c.args.host.now) (g.H.Host.streams c.args.host.now)) (moment (g.H.Disk.state c.do_words-note.new.host) (g.H.Host.streams c.do_words-note.new.host)) c.do_words-note.result)
     _ (λ asked laws does. (promises g c asked laws does).exactly) job (c.do_words-note.ensures.does job is)
 
 pub returns-clause-does : goal.returns-clause-does
-returns-clause-does g c = λ job is. on_job (given (g.R.Rng.stream c.args.rng.now) [])
+returns-clause-does g c = λ job is. on_job (inputs (g.R.Rng.stream c.args.rng.now) (g.I.Source.state c.args.input.now).left)
     (λ asked. DoesAction asked (moment (g.H.Disk.state c.args.host.now) (g.H.Host.streams c.args.host.now)) (moment (g.H.Disk.state c.do_words-note.new.host) (g.H.Host.streams c.do_words-note.new.host)) c.do_words-note.result)
     _ (λ asked laws does. (promises g c asked laws does).does) job (c.do_words-note.ensures.does job is)
 
 pub returns-clause-draws : goal.returns-clause-draws
-returns-clause-draws g c = λ job is. on_job (given (g.R.Rng.stream c.args.rng.now) [])
+returns-clause-draws g c = λ job is. on_job (inputs (g.R.Rng.stream c.args.rng.now) (g.I.Source.state c.args.input.now).left)
     (λ asked. DrawsFor asked (g.H.Disk.state c.args.host.now) (g.R.Rng.stream c.args.rng.now) (g.R.Rng.stream c.do_words-note.new.rng) c.do_words-note.result)
     (λ asked. DrawsFor asked (g.H.Disk.state c.args.host.now) (g.R.Rng.stream c.args.rng.now) (g.R.Rng.stream c.do_words-note.new.rng) c.end_run.result.note)
     (λ asked laws draws. subst (λ (n : Note). DrawsFor asked (g.H.Disk.state c.args.host.now) (g.R.Rng.stream c.args.rng.now) (g.R.Rng.stream c.do_words-note.new.rng) n) (sym c.end_run.ensures.note) draws)

@@ -1,8 +1,8 @@
-use Rattle.std.proofs.Common.{◌≡◌, [], sym, subst}
+use Rattle.std.proofs.Common.{◌≡◌, sym, subst}
 use Rattle.base_devices.specs.HostCalls.{moment}
 use Rattle.base_notes.specs.declared.note.Note.{Note}
-use Rattle.db_tool.specs.Tasks.{given}
-use Rattle.cyr_top.specs.Actions.{DoesAction, but_warned}
+use Rattle.cyr_top.specs.Actions.{DoesAction, DrawsFor, but_warned}
+use Rattle.cyr_top.specs.Asked.{inputs}
 use Rattle.cyr_top.specs.Crashes.{KeepsPromises}
 use Rattle.cyr_top.specs.Converting.{DoesConversion, with_both}
 use Rattle.cyr_top.specs.Rebuilding.{DoesRebuild, rebuild_of}
@@ -14,7 +14,7 @@ use Rattle.cyr_top.proofs.RebuildingLemmas.{on_folder, rebuild_still}
 use Rattle.cyr_top.proofs.running.run_job.Goals as goal
 
 pub returns-clause-promises : goal.returns-clause-promises
-returns-clause-promises g c = λ built. on_job (given (g.R.Rng.stream c.args.rng.now) [])
+returns-clause-promises g c = λ built. on_job (inputs (g.R.Rng.stream c.args.rng.now) (g.I.Source.state c.args.input.now).left)
     (λ asked. DoesAction asked (moment (g.H.Disk.state c.args.host.now) (g.H.Host.streams c.args.host.now)) (moment (g.H.Disk.state c.do_job-note.new.host) (g.H.Host.streams c.do_job-note.new.host)) c.do_job-note.result)
     (λ asked. KeepsPromises asked (moment (g.H.Disk.state c.args.host.now) (g.H.Host.streams c.args.host.now)) (but_warned (g.H.Disk.state c.end_run.new.host) (g.H.Host.streams c.args.host.now) (g.H.Host.streams c.end_run.new.host)) c.end_run.result.note)
     (λ asked laws does. subst (λ (n : Note). KeepsPromises asked (moment (g.H.Disk.state c.args.host.now) (g.H.Host.streams c.args.host.now)) (but_warned (g.H.Disk.state c.end_run.new.host) (g.H.Host.streams c.args.host.now) (g.H.Host.streams c.end_run.new.host)) n) (sym c.end_run.ensures.note)
@@ -42,3 +42,10 @@ returns-clause-silent g c = on_conversion
     (λ asked. SamePrints (g.H.Host.streams c.args.host.now) (g.H.Host.streams c.end_run.new.host) × (c.do_job-note.new.spool ≡ c.args.spool.now))
     (λ asked silent. (same_prints _ _ _ silent.0 c.end_run.ensures.told c.end_run.ensures.tell_faults, silent.1))
     c.args.job.now c.do_job-note.ensures.silent
+
+pub returns-clause-draws : goal.returns-clause-draws
+returns-clause-draws g c = λ built. on_job (inputs (g.R.Rng.stream c.args.rng.now) (g.I.Source.state c.args.input.now).left)
+    (λ asked. DrawsFor asked (g.H.Disk.state c.args.host.now) (g.R.Rng.stream c.args.rng.now) (g.R.Rng.stream c.do_job-note.new.rng) c.do_job-note.result)
+    (λ asked. DrawsFor asked (g.H.Disk.state c.args.host.now) (g.R.Rng.stream c.args.rng.now) (g.R.Rng.stream c.do_job-note.new.rng) c.end_run.result.note)
+    (λ asked laws draws. subst (λ (n : Note). DrawsFor asked (g.H.Disk.state c.args.host.now) (g.R.Rng.stream c.args.rng.now) (g.R.Rng.stream c.do_job-note.new.rng) n) (sym c.end_run.ensures.note) draws)
+    c.args.job.now (c.do_job-note.ensures.draws built)
