@@ -6,16 +6,15 @@ ghost use Rattle.std.specs.Prelude.{◌≡◌, true, [], None, IfOk, map, string
 ghost use Rattle.std.specs.Process.{exit_status};
 ghost use Rattle.base_devices.specs.HostCalls.{moment};
 ghost use Rattle.base_devices.specs.SpoolCalls.{GaveNoName, shown_files};
-ghost use Rattle.base_notes.specs.declared.note.Device.TheVariants.{Second as SecondDevice, Spool as SpoolDevice};
+ghost use Rattle.base_notes.specs.declared.note.Device.TheVariants.{Input as InputDevice, Second as SecondDevice, Spool as SpoolDevice};
 ghost use Rattle.base_notes.specs.declared.note.Note.{Note};
 ghost use Rattle.base_notes.specs.Notes.{status_of};
 ghost use Rattle.cyr_top.specs.Actions.{but_warned};
-ghost use Rattle.cyr_top.specs.Asked.{OnDatabase, built_job_of, is_built};
+ghost use Rattle.cyr_top.specs.Asked.{OnDatabase, built_job_of, inputs, is_built};
 ghost use Rattle.cyr_top.specs.Converting.{DoesConversion, OnConversion, with_both};
 ghost use Rattle.cyr_top.specs.Crashes.{KeepsPromises};
 ghost use Rattle.cyr_top.specs.Rebuilding.{DoesRebuild, OnFolder, rebuild_of};
 ghost use Rattle.cyr_top.specs.Stated.{Ran, Warns};
-ghost use Rattle.db_tool.specs.Tasks.{given};
 ghost use Rattle.db_tool.specs.ToolNotes.{Faults};
 ghost use Rattle.tool_words.specs.PathsOf.{folder_path_of, main_path_of, second_path_of};
 
@@ -23,8 +22,9 @@ use crate::apart::are_apart;
 use base_bytes::{NoMemory, Text};
 use base_devices::{Disk, Host, Spool};
 use base_notes::{STATUS_DEVICE_FAULT, STATUS_NO_MEMORY};
+use base_source::Source;
 use cyr_top::{Job, WordFault, job, paths, run, run_job};
-use disk_kinds::{FileDisk, FileHost, FileSpool};
+use disk_kinds::{FileDisk, FileHost, FileSpool, StdinSource};
 use rand_core::Rng;
 use rand_pcg::Pcg32;
 use std::alloc::Global;
@@ -75,12 +75,13 @@ fn seconds(clock: &impl Clock) -> u64 {
 }
 
 // Does the job, and ends with the status of its note.
-fn end_job<H: Host, D: Disk, S: Spool, R: Rng>(
+fn end_job<H: Host, D: Disk, S: Spool, I: Source, R: Rng>(
     alloc: Global,
     job: &Job,
     host: &mut H,
     second: &mut D,
     spool: &mut S,
+    input: &mut I,
     now: u64,
     rng: &mut R,
 ) -> ExitCode
@@ -90,7 +91,9 @@ fn end_job<H: Host, D: Disk, S: Spool, R: Rng>(
         × Ran note (H.state host.old) (H.state host.new)
         × Faults SecondDevice note (D.state second.old).faults (D.state second.new).faults
         × Faults SpoolDevice note (S.state spool.old).faults (S.state spool.new).faults
-        × (is_built job.now ≡ true → OnDatabase (given (R.stream rng.old) [])
+        × Faults InputDevice note (I.state input.old).faults (I.state input.new).faults
+        × (is_built job.now ≡ true → OnDatabase
+        (inputs (R.stream rng.old) (I.state input.old).left)
         (λ asked. KeepsPromises asked (moment (H.state host.old) (H.streams host.old))
         (but_warned (H.state host.new) (H.streams host.old) (H.streams host.new)) note) job.now)
         × OnConversion (λ asked. DoesConversion asked
@@ -102,16 +105,17 @@ fn end_job<H: Host, D: Disk, S: Spool, R: Rng>(
     ensures files { shown_files (S.state spool.new) ≡ shown_files (S.state spool.old) }
     ensures rest { H.host_rest host.old host.new }
 {
-    ExitCode::from(run_job(alloc, job, host, second, spool, now, rng).status)
+    ExitCode::from(run_job(alloc, job, host, second, spool, input, now, rng).status)
 }
 
 // Answers words that stand for no job, and ends with the status of the note.
-fn end_words<H: Host, D: Disk, S: Spool, R: Rng>(
+fn end_words<H: Host, D: Disk, S: Spool, I: Source, R: Rng>(
     alloc: Global,
     words: &[String],
     host: &mut H,
     second: &mut D,
     spool: &mut S,
+    input: &mut I,
     now: u64,
     rng: &mut R,
 ) -> ExitCode
@@ -122,7 +126,7 @@ fn end_words<H: Host, D: Disk, S: Spool, R: Rng>(
         × (note ≡ Note.Usage → built_job_of (map string_bytes words.now) ≡ None) }
     ensures rest { H.host_rest host.old host.new }
 {
-    ExitCode::from(run(alloc, words, host, second, spool, now, rng).status)
+    ExitCode::from(run(alloc, words, host, second, spool, input, now, rng).status)
 }
 
 // The path, or an empty one.
@@ -170,6 +174,7 @@ fn do_job(rt: HostRuntime, job: &Job) -> Result<ExitCode, NoMemory> {
     }
     let now = seconds(&rt);
     let mut rng = Pcg32::new(nanoseconds(&rt), 0);
+    let mut input = StdinSource::new(rt);
     let mut spool = FileSpool::new(rt, folder);
     let mut second = FileDisk::new(rt, second);
     let mut host = FileHost::new(rt, main);
@@ -179,6 +184,7 @@ fn do_job(rt: HostRuntime, job: &Job) -> Result<ExitCode, NoMemory> {
         &mut host,
         &mut second,
         &mut spool,
+        &mut input,
         now,
         &mut rng,
     ))
@@ -188,6 +194,7 @@ fn do_job(rt: HostRuntime, job: &Job) -> Result<ExitCode, NoMemory> {
 fn answer_words(rt: HostRuntime, words: &[String]) -> Result<ExitCode, NoMemory> {
     let alloc = rt.alloc();
     let mut rng = Pcg32::new(0, 0);
+    let mut input = StdinSource::new(rt);
     let mut spool = FileSpool::new(rt, Text::of(alloc, "")?);
     let mut second = FileDisk::new(rt, Text::of(alloc, "")?);
     let mut host = FileHost::new(rt, Text::of(alloc, "")?);
@@ -197,6 +204,7 @@ fn answer_words(rt: HostRuntime, words: &[String]) -> Result<ExitCode, NoMemory>
         &mut host,
         &mut second,
         &mut spool,
+        &mut input,
         0,
         &mut rng,
     ))

@@ -5,4 +5,5 @@ mod files;
 mod limits;
 mod rows;
 mod runs;
+mod scripting;
 mod stops;

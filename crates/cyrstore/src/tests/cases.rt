@@ -1,7 +1,7 @@
 // A run over devices in memory, and what must come of it.
 use base_bytes::NoMemory;
 use cyr_top::run;
-use disk_kinds::{MemDisk, MemHost, MemSpool};
+use disk_kinds::{MemDisk, MemHost, MemSource, MemSpool};
 use rand_pcg::Pcg32;
 use std::alloc::{AllocError, Global};
 use std::process::Abort;
@@ -64,8 +64,21 @@ pub(crate) fn status_of(
 ) -> Result<u8, NoMemory> {
     let mut second = MemDisk::new(alloc, None, 0, &[])?;
     let mut spool = MemSpool::new(alloc)?;
+    let mut input = MemSource::new(alloc, b"", 1, &[])?;
     let mut rng = Pcg32::new(42, 54);
-    Ok(run(alloc, words, host, &mut second, &mut spool, 0, &mut rng).status)
+    Ok(
+        run(
+            alloc,
+            words,
+            host,
+            &mut second,
+            &mut spool,
+            &mut input,
+            0,
+            &mut rng,
+        )
+        .status,
+    )
 }
 
 // What the host was told, and what its file then reads.

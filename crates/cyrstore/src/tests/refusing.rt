@@ -23,7 +23,7 @@ const WRONG: [&str; 32] = [
     // no other action
     "cyr_dbtool f flat put b 2",
     "cyr_dbtool f flat repack",
-    "cyr_dbtool f flat batch",
+    "cyr_dbtool f flat exercise 3",
     "cyr_dbtool f twoskip repack",
     "cyr_dbtool f flat SHOW",
     // a word too few or too many

@@ -5,6 +5,7 @@ use super::rows::{NOW, folder, host};
 use super::runs::words_of;
 use cyr_top::run;
 use mem_devices::{MemDisk, MemHost};
+use mem_source::MemSource;
 use rand_pcg::Pcg32;
 use std::alloc::Global;
 use std::process::Abort;
@@ -521,12 +522,14 @@ pub(crate) fn rebuild_box(
     let words = words_of(alloc, "reconstruct box")?;
     let mut rng = Pcg32::new(42, 54);
     let mut second = MemDisk::new(alloc, None, 0, &[])?;
+    let mut input = MemSource::new(alloc, b"", 1, &[])?;
     let outcome = run(
         alloc,
         &words,
         &mut host,
         &mut second,
         &mut spool,
+        &mut input,
         now,
         &mut rng,
     );

@@ -4,6 +4,7 @@ use super::model::File;
 use super::rows::{FIVE, NOW, TWO, folder, host};
 use cyr_top::run;
 use mem_devices::MemDisk;
+use mem_source::MemSource;
 use rand_pcg::Pcg32;
 use std::alloc::{AllocError, Global};
 use std::process::Abort;
@@ -106,12 +107,14 @@ fn assert_row(rt: &impl Abort, alloc: Global, row: &Row) -> Result<(), Fail> {
     let words = words_of(alloc, row.words)?;
     let mut rng = Pcg32::new(42, 54);
     let mut second = MemDisk::new(alloc, None, 0, &[])?;
+    let mut input = MemSource::new(alloc, b"", 1, &[])?;
     let outcome = run(
         alloc,
         &words,
         &mut host,
         &mut second,
         &mut spool,
+        &mut input,
         NOW,
         &mut rng,
     );

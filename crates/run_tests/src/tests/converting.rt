@@ -3,6 +3,7 @@ use super::files::{CIRCLE, DELETED, EMPTY, ONE_PAIR, TORN};
 use super::runs::{host_of, words_of};
 use cyr_top::run;
 use mem_devices::{MemDisk, MemHost};
+use mem_source::MemSource;
 use mem_spool::MemSpool;
 use rand_pcg::Pcg32;
 use std::alloc::Global;
@@ -76,6 +77,7 @@ fn convert(alloc: Global, row: &Row<'_>) -> Result<(MemHost, MemDisk, u8), Fail>
     }
     let mut second = MemDisk::new(alloc, row.new, ROOM, row.new_fails)?;
     let mut spool = MemSpool::new(alloc)?;
+    let mut input = MemSource::new(alloc, b"", 1, &[])?;
     let mut rng = Pcg32::new(42, 54);
     let status = run(
         alloc,
@@ -83,6 +85,7 @@ fn convert(alloc: Global, row: &Row<'_>) -> Result<(MemHost, MemDisk, u8), Fail>
         &mut host,
         &mut second,
         &mut spool,
+        &mut input,
         0,
         &mut rng,
     )

@@ -1,6 +1,7 @@
 // A run over devices in memory.
 use cyr_top::run;
 use mem_devices::{MemDisk, MemHost};
+use mem_source::MemSource;
 use mem_spool::MemSpool;
 use rand_core::utils::NextWord;
 use rand_pcg::Pcg32;
@@ -62,8 +63,32 @@ pub fn status_of(
     words: &[String],
     level: u32,
 ) -> Result<u8, Fail> {
+    let mut input = MemSource::new(alloc, b"", 1, &[])?;
+    status_with(alloc, host, words, level, &mut input)
+}
+
+/// The same of a run that is given this standard input.
+pub fn status_with(
+    alloc: Global,
+    host: &mut MemHost,
+    words: &[String],
+    level: u32,
+    input: &mut MemSource,
+) -> Result<u8, Fail> {
     let mut second = MemDisk::new(alloc, None, 0, &[])?;
     let mut spool = MemSpool::new(alloc)?;
     let mut rng = rng_of(level)?;
-    Ok(run(alloc, words, host, &mut second, &mut spool, 0, &mut rng).status)
+    Ok(
+        run(
+            alloc,
+            words,
+            host,
+            &mut second,
+            &mut spool,
+            input,
+            0,
+            &mut rng,
+        )
+        .status,
+    )
 }
