@@ -4,7 +4,7 @@ ghost use Rattle.std.specs.Option.{option_copied};
 ghost use Rattle.base_bytes.specs.OrderedMap.{first_above, first_from, value_at};
 ghost use Rattle.skip_spec.specs.Opens.{Contents, Reads, Tidy};
 ghost use Rattle.skip_seek.specs.Searches.{StaysInBound, pair_of};
-ghost use Rattle.skip_txn.specs.Sessions.{bytes_of, resting, session_state};
+ghost use Rattle.skip_txn.specs.Sessions.{broken, bytes_of, resting, session_state};
 
 use base_bytes::{Pair, Steps};
 use skip_image::Image;
@@ -76,6 +76,13 @@ impl Session {
         ensures { result ≡ (session_state self.now).in_transaction }
     {
         matches!(self.state.stage, Stage::Open { .. })
+    }
+
+    /// Ends the session after a fault of the disk that a call outside of it met: from here on it is broken.
+    pub fn give_up(&mut self)
+        ensures { self.new ≡ broken }
+    {
+        self.state.stage = Stage::Broken;
     }
 
     /// Whether an earlier call met a fault of the disk.
