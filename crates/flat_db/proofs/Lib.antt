@@ -9,6 +9,7 @@ pub mod OpeningLemmas
 pub mod PairLemmas
 pub mod PlaceLemmas
 pub mod PlainLemmas
+pub mod RepackingLemmas
 pub mod SessionLemmas
 pub mod ShowingLemmas
 pub mod Sizes

@@ -9,6 +9,7 @@ pub mod Opening
 pub mod Places
 pub mod Plain
 pub mod Reading
+pub mod Repacking
 pub mod Sessions
 pub mod Showing
 pub mod Writing

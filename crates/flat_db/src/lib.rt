@@ -7,7 +7,7 @@
 //!   session, opening    a session over a file, and how it is opened, looked through and made
 //!   showing             a text that is shown as it stands, of which no map is made
 //!   finding, looking    one key is looked for, or a flaw, and no map is made
-//!   filling             a new file is filled with the pairs of another database
+//!   filling, repacking  a new file is filled with the pairs of another database, or of this one
 //!   laws                what holds of every text
 #![tactic(auto)]
 
@@ -20,6 +20,7 @@ mod looking;
 mod opening;
 mod pairs;
 mod reading;
+mod repacking;
 mod replacing;
 mod session;
 mod showing;
@@ -32,6 +33,7 @@ pub use flat_map::{FlatFault, FlatMap, read_flat};
 pub use laws::{canonical_text_reads_back, flat_kind_keeps_its_laws, flawless_text_opens_once};
 pub use looking::{fetch_db, verify_db};
 pub use opening::{check_db, open_db};
+pub use repacking::repack;
 pub use replacing::create;
 pub use session::FlatDb;
 pub use showing::{Shown, open_shown};

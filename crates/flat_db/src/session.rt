@@ -75,9 +75,9 @@ impl Stage {
 #[derive(Drop)]
 pub struct FlatDb {
     alloc: Global,
-    bytes: Vec<u8>,
-    seen: Pairs,
-    stage: Stage,
+    pub(crate) bytes: Vec<u8>,
+    pub(crate) seen: Pairs,
+    pub(crate) stage: Stage,
 }
 
 impl Model for FlatDb {
@@ -103,7 +103,7 @@ impl FlatDb {
         }
     }
 
-    fn is_broken(&self) -> bool
+    pub(crate) fn is_broken(&self) -> bool
         ensures { result ≡ (flat_state self.now).is_broken }
     {
         matches!(self.stage, Stage::Broken)

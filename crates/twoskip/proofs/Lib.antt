@@ -1,4 +1,5 @@
 pub mod DrawLemmas
 mod EmptyFile
 pub mod OpeningLemmas
+pub mod RepackingLemmas
 pub mod SettlingLemmas

@@ -41,17 +41,17 @@ use Rattle.twoskip.proofs.OpeningLemmas.{verified_opens}
 -- ---- a tidy file that a crash leaves alone
 
 -- the live records under its end are those that it says
-tidy_lives : (file : List ℕ) (says : Contents) → Reads file says → Tidy file says → live_under file (length file) ≡ says.chain
+pub tidy_lives : (file : List ℕ) (says : Contents) → Reads file says → Tidy file says → live_under file (length file) ≡ says.chain
 tidy_lives file says reads tidy = ap (live_under file) tidy.ends ∙ file_lives file says reads
 
-tidy_state : (file : List ℕ) (says : Contents) → Reads file says → Tidy file says → session_state (resting file) ≡ at_rest (pairs says.chain) says.header.current_size
+pub tidy_state : (file : List ℕ) (says : Contents) → Reads file says → Tidy file says → session_state (resting file) ≡ at_rest (pairs says.chain) says.header.current_size
 tidy_state file says reads tidy = λ i. at_rest (ap pairs (tidy_lives file says reads tidy) i) (tidy.ends i)
 
 -- what is read is all that is left, where that is so durably
 pub left_alone : (s : DiskState) (file : List ℕ) → IsMoment s → IsDurable s → (Shows s → devices.Reads s file) → (c : Image) → s.leaves c → c ≡ Some file
 left_alone s file moment durable reads = leaves_told s s (Some file) (goes_same s) moment durable reads
 
-tidy_tied : (file : List ℕ) (says : Contents) (s : DiskState) → Reads file says → Tidy file says → length file ≤ SKIP_LIMIT → IsMoment s → IsDurable s → (Shows s → devices.Reads s file) → Tied (resting file) s
+pub tidy_tied : (file : List ℕ) (says : Contents) (s : DiskState) → Reads file says → Tidy file says → length file ≤ SKIP_LIMIT → IsMoment s → IsDurable s → (Shows s → devices.Reads s file) → Tied (resting file) s
 tidy_tied file says s reads tidy within moment durable read = record {
   base = file;
   says = says;

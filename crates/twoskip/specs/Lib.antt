@@ -1,3 +1,4 @@
 pub mod Filling
 pub mod Opening
+pub mod Repacking
 pub mod TieLaws

@@ -1,17 +1,14 @@
 // A new file is filled with the pairs of a database, as a fresh layout with random levels.
-ghost use Rattle.std.specs.Prelude.{◌≡◌, Some, None, IfOk, IfErr, OnOk, false, length};
+ghost use Rattle.std.specs.Prelude.{◌≡◌, None, IfOk, IfErr, OnOk, false, length};
 ghost use Rattle.base_bytes.specs.declared.limits.TheConstants.{SKIP_LIMIT};
-ghost use Rattle.base_devices.specs.Causes.{HasCause};
-ghost use Rattle.base_devices.specs.CrashImages.{Shows};
-ghost use Rattle.base_devices.specs.DiskCalls.{fresh_bytes};
-ghost use Rattle.base_devices.specs.Frames.{MayReplace, Replaces, StaysAs};
 ghost use Rattle.db_core.specs.Refusals.{IsDiskFault, LeavesDisk};
 ghost use Rattle.db_fill.specs.Filling.{DrawsUpTo, Fills, MayRefuse, fill_refusal, left_after, pairs_refusal, with_words_to_come};
 ghost use Rattle.skip_layout.specs.Items.{items_in};
 ghost use Rattle.twoskip.specs.Filling.{FillsConvert, items_by, skip_fill};
 
+use crate::replacing::replace_by;
 use base_bytes::{NoMemory, SKIP_LIMIT};
-use base_devices::{Disk, Failed};
+use base_devices::Disk;
 use db_core::{Db, DbFault};
 use db_fill::pairs_fault;
 use rand_core::Rng;
@@ -90,30 +87,6 @@ fn fresh_image<E: Disk, B: Db<E>, R: Rng>(
         Ok(image) => Ok(image),
         Err(_) => Err(DbFault::NoMemory),
     }
-}
-
-// Writes the new file: the bytes of an image.
-fn write_image<D: Disk>(image: &Image, to: &mut D) -> Result<(), Failed>
-    ensures written { OnOk result (Shows (D.state to.old) → fresh_bytes (D.state to.new).fresh
-        ≡ Some image.now.bytes) }
-    ensures stays { StaysAs (D.state to.old) (D.state to.new) }
-    ensures cause { HasCause (D.state to.old).faults (D.state to.new).faults result }
-    ensures rest { D.disk_rest to.old to.new }
-{
-    to.new_start()?;
-    image.write_new(to)
-}
-
-// Puts the bytes of an image in the place of the main file.
-fn replace_by<D: Disk>(image: &Image, to: &mut D) -> Result<(), Failed>
-    ensures replaces { Replaces image.now.bytes (D.state to.old) (D.state to.new) result }
-    ensures any_moment { MayReplace image.now.bytes (D.state to.old) (D.state to.new) }
-    ensures cause { HasCause (D.state to.old).faults (D.state to.new).faults result }
-    ensures rest { D.disk_rest to.old to.new }
-{
-    write_image(image, to)?;
-    to.new_sync()?;
-    to.publish()
 }
 
 /// Publishes a twoskip file of the map seen of another database, whatever its kind, and answers how many pairs it has.

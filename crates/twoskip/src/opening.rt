@@ -21,7 +21,7 @@ use skip_txn::Session;
 use std::alloc::Global;
 
 // The items of a slice of bytes are bytes, which the contract of an image does not say.
-fn are_bytes(_file: &[u8])
+pub(crate) fn are_bytes(_file: &[u8])
     ensures { AreBytes _file.now }
 {}
 

@@ -1,11 +1,38 @@
-// An empty file is made: written beside the main file, synced, and put in its place.
-ghost use Rattle.std.specs.Prelude.{◌≡◌};
+// The main file is replaced: a whole new one is written beside it, synced, and put in its place.
+ghost use Rattle.std.specs.Prelude.{◌≡◌, Some, OnOk};
 ghost use Rattle.base_devices.specs.Causes.{HasCause};
-ghost use Rattle.base_devices.specs.Frames.{MayReplace, Replaces};
+ghost use Rattle.base_devices.specs.CrashImages.{Shows};
+ghost use Rattle.base_devices.specs.DiskCalls.{fresh_bytes};
+ghost use Rattle.base_devices.specs.Frames.{MayReplace, Replaces, StaysAs};
 ghost use Rattle.skip_kind.specs.Kind.{skip_kind};
 
 use base_devices::{Disk, Failed};
 use skip_form::{Head, Header, Kind, tail_check, write_head_into, write_header};
+use skip_image::Image;
+
+// Writes the new file: the bytes of an image.
+fn write_image<D: Disk>(image: &Image, to: &mut D) -> Result<(), Failed>
+    ensures written { OnOk result (Shows (D.state to.old) → fresh_bytes (D.state to.new).fresh
+        ≡ Some image.now.bytes) }
+    ensures stays { StaysAs (D.state to.old) (D.state to.new) }
+    ensures cause { HasCause (D.state to.old).faults (D.state to.new).faults result }
+    ensures rest { D.disk_rest to.old to.new }
+{
+    to.new_start()?;
+    image.write_new(to)
+}
+
+// Puts the bytes of an image in the place of the main file.
+pub(crate) fn replace_by<D: Disk>(image: &Image, to: &mut D) -> Result<(), Failed>
+    ensures replaces { Replaces image.now.bytes (D.state to.old) (D.state to.new) result }
+    ensures any_moment { MayReplace image.now.bytes (D.state to.old) (D.state to.new) }
+    ensures cause { HasCause (D.state to.old).faults (D.state to.new).faults result }
+    ensures rest { D.disk_rest to.old to.new }
+{
+    write_image(image, to)?;
+    to.new_sync()?;
+    to.publish()
+}
 
 // The header of generation 1, of a file of 336 bytes without a record.
 const EMPTY_HEADER: Header = Header {

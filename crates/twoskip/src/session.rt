@@ -11,7 +11,7 @@ use std::marker::Model;
 /// An open twoskip file. A contract sees its bytes, and whether a transaction is open.
 #[derive(Drop)]
 pub struct Twoskip {
-    session: Session,
+    pub(crate) session: Session,
 }
 
 impl Model for Twoskip {
