@@ -16,7 +16,6 @@ use Rattle.base_devices.proofs.FrameLemmas.{less_of_stays}
 use Rattle.base_devices.proofs.Moments.{each_then, leaves_still, stays_call, stays_same}
 use Rattle.base_notes.specs.declared.action.Action.TheVariants.{Consistent}
 use Rattle.base_notes.specs.declared.action.Backend.{Backend}
-use Rattle.base_notes.specs.declared.action.Backend.TheVariants.{Flat, Twoskip}
 use Rattle.base_notes.specs.declared.note.Device.{Device}
 use Rattle.base_notes.specs.declared.note.Device.TheVariants.{Host, Second, Spool}
 use Rattle.base_notes.specs.declared.note.Note.{Note}
@@ -31,9 +30,7 @@ use Rattle.db_core.specs.declared.opening.OpenFault.TheVariants.{Absent as NoFil
 use Rattle.db_fill.specs.Filling.{FillKind, Fills, MayRefuse, fill_refusal, pairs_refusal, with_words_to_come}
 use Rattle.db_tool.specs.Tasks.{given}
 use Rattle.db_tool.specs.ToolNotes.{Faults, IsCutOff, change_note, opening_note}
-use Rattle.flat_db.proofs.KindLaws.{flat_laws}
 use Rattle.rand_core.specs.Stream.{Stream}
-use Rattle.skip_kind.proofs.KindLaws.{skip_laws}
 use Rattle.tool_words.specs.declared.jobs.Job.{Job}
 use Rattle.tool_words.specs.declared.jobs.Job.TheVariants.{Convert}
 use Rattle.cyr_top.specs.Asked.{Asked, asking, fill_of, kind_of}

@@ -1,5 +1,5 @@
 -- The end of a script: its note, and that no byte acknowledges a transaction by itself.
-use Rattle.std.proofs.Common.{◌≡◌, ℕ, ◌-◌, ◌≤◌, Bool, true, false, List, [], ◌∷◌, ◌++◌, rules, Option, None, Some, Result, Ok, Err, length, refl, sym, ap, subst, ◌∙◌, arith}
+use Rattle.std.proofs.Common.{◌≡◌, ℕ, ◌-◌, ◌≤◌, Bool, true, false, List, [], ◌∷◌, ◌++◌, rules, Option, None, Some, Result, Ok, Err, length, refl, sym, subst, arith}
 use Rattle.std.specs.Prelude.{leb, nat_lt, ◌+◌, if◌then◌else◌}
 use Rattle.base_bytes.specs.declared.limits.TheConstants.{SCRIPT_LIMIT}
 use Rattle.base_notes.specs.declared.note.Device.TheVariants.{Host}

@@ -1,5 +1,5 @@
 -- What is stated of an action is stated once.
-use Rattle.std.proofs.Common.{◌≡◌, inl, inr, ℕ, Bool, true, false, List, Option, Some, None, length, refl, sym, ◌∙◌, ap, subst, arith}
+use Rattle.std.proofs.Common.{◌≡◌, inl, inr, ℕ, zero, suc, Bool, true, false, List, Option, Some, None, length, refl, sym, ◌∙◌, ap, subst, arith}
 use Rattle.std.specs.Prelude.{is_some, if◌then◌else◌}
 use Rattle.rand_core.specs.Stream.{next_u32}
 use Rattle.base_bytes.specs.OrderedMap.{Map, value_at}
@@ -19,6 +19,8 @@ use Rattle.db_core.specs.declared.fault.DbFault.{DbFault}
 use Rattle.db_core.specs.declared.fault.DbFault.TheVariants.{Broken, KeyEmpty, KeyTooLong, ValueTooLong, Full, NoMemory, DiskFault}
 use Rattle.db_core.specs.declared.opening.OpenFault.{OpenFault}
 use Rattle.db_core.specs.declared.opening.OpenFault.TheVariants.{Absent as NoFile, TooBig, NoMemory as NoRoom, DiskFault as NoDisk, Damaged as Flawed}
+use Rattle.db_core.specs.WholeTransactions.{run_refusal}
+use Rattle.db_exercise.specs.Exercise.{Ending, Progress, after_round, ending_of, next_of, nothing_done, unless_owed}
 use Rattle.db_script.specs.Batch.{IsScriptNote}
 use Rattle.db_tool.specs.Tasks.{CanAct, Given, Task, changing_by, lacks_key, task_if, task_of}
 use Rattle.db_tool.specs.ToolNotes.{IsFault, IsCutOff, change_note, opening_note}
@@ -170,6 +172,19 @@ plain_by kind s g false Repack = record { none = refl; may = (refl, refl); built
 plain_by kind s g false Batch = record { none = refl; may = (refl, refl); built = inl tt; no_usage = λ is. cc is }
 plain_by kind s g false (Exercise rounds) = record { none = refl; may = (refl, refl); built = tt; no_usage = λ is. cc is }
 
+-- of generated transactions too: they end with `Done`, or with the refusal of one
+abbrev IsGoodEnding : Ending → Type 0
+IsGoodEnding e = IsBuilt e.note × (e.note ≡ Usage → ⊥)
+
+ending_good : (kind : DbKind) (left : ℕ) (p : Progress) → IsGoodEnding (ending_of kind left p)
+unfolding ending_of
+ending_good kind zero p = (tt, λ is. cc is)
+ending_good kind (suc left) p = by (ending_good kind left (after_round kind p)) (run_refusal kind p.session (next_of p))
+  where
+    by : IsGoodEnding (ending_of kind left (after_round kind p)) → (owed : Option DbFault) → IsGoodEnding (unless_owed owed p (ending_of kind left (after_round kind p)))
+    by later None = later
+    by later (Some fault) = (refused_built fault, refused_no_usage fault)
+
 plain_of : (a : Action) (kind : DbKind) (s : DbState) (g : Given) → IsPlain a (task_by a kind s g)
 plain_of (Show prefix) kind s g = plain_by kind s g false (Show prefix)
 plain_of (Get key) kind s g = plain_by kind s g (lacks_key (Get key)) (Get key)
@@ -180,7 +195,9 @@ plain_of Repack kind s g = plain_by kind s g false Repack
 plain_of Batch kind s g =
     let good = script_good kind s g.words g.script in
     record { none = script_silent kind s g.words g.script; may = omega (arith, script_silent kind s g.words g.script); built = inr good; no_usage = λ is. subst IsScriptNote is good }
-plain_of (Exercise rounds) kind s g = plain_by kind s g false (Exercise rounds)
+plain_of (Exercise rounds) kind s g =
+    let good = ending_good kind rounds (nothing_done s g.words) in
+    record { none = refl; may = (refl, omega arith); built = good.0; no_usage = good.1 }
 
 pub task_plain : (asked : Asked) (s : DbState) → IsPlain asked.action (task_for asked s)
 task_plain asked s = plain_of asked.action asked.kind s asked.given
@@ -194,7 +211,7 @@ done_task (Delete key) kind s g can = refl
 done_task Consistent kind s g can = refl
 done_task Repack kind s g can = refl
 done_task Batch kind s g can = absurd can
-done_task (Exercise rounds) kind s g can = refl
+done_task (Exercise rounds) kind s g can = absurd can
 
 pub opening_built : (fault : OpenFault) → IsBuilt (opening_note Host fault)
 opening_built NoFile = tt

@@ -1,11 +1,13 @@
 -- What a command line asks of a database, and which jobs are built. What it asks of a folder stands in Rebuilding, and of two
 -- files in Converting.
-use Rattle.std.specs.Prelude.{◌≡◌, Bool, true, false, List, [], ℕ, Option, None, Some, option_and_then, if◌then◌else◌}
+use Rattle.std.specs.Prelude.{◌≡◌, Bool, true, false, List, [], ℕ, leb, Option, None, Some, option_and_then, if◌then◌else◌}
 use Rattle.base_notes.specs.declared.action.Action.{Action}
-use Rattle.base_notes.specs.declared.action.Action.TheVariants.{Batch, Consistent, Show, Get, Set, Delete}
+use Rattle.base_notes.specs.declared.action.Action.TheVariants.{Batch, Consistent, Exercise, Show, Get, Set, Delete}
 use Rattle.base_notes.specs.declared.action.Backend.{Backend}
 use Rattle.base_notes.specs.declared.action.Backend.TheVariants.{Flat, Twoskip}
 use Rattle.db_core.specs.Sessions.{DbKind, DbState}
+use Rattle.db_exercise.specs.Exercise.{exercise_task}
+use Rattle.db_exercise.specs.declared.changes.TheConstants.{ROUND_LIMIT}
 use Rattle.db_fill.specs.Filling.{FillKind}
 use Rattle.db_script.specs.Scripts.{script_task}
 use Rattle.db_tool.specs.Tasks.{Given, Task, given, task_of}
@@ -28,9 +30,10 @@ pub record Asked : Type 1 where
 abbrev pub asking : DbKind → Bool → Action → Given → Asked
 asking kind make action given = record { kind = kind; make = make; action = action; given = given }
 
--- the task of an action: that of the lines of a script, or of one action
+-- the task of an action: that of the lines of a script, of generated transactions, or of one action
 abbrev pub task_by : Action → DbKind → DbState → Given → Task
 task_by Batch kind s given = script_task kind s given.words given.script
+task_by (Exercise rounds) kind s given = exercise_task kind rounds s given.words
 task_by action kind s given = task_of kind s given action
 
 -- the task that is asked for, over the session with which the database opens
@@ -55,6 +58,7 @@ is_done (Get key) = true
 is_done (Set key value) = true
 is_done (Delete key) = true
 is_done Consistent = true
+is_done (Exercise rounds) = leb rounds ROUND_LIMIT
 is_done action = false
 
 abbrev pub reads_script : Action → Bool

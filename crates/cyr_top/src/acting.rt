@@ -1,11 +1,12 @@
 // Actions over the host's main file, by the files of a backend.
-ghost use Rattle.std.specs.Prelude.{◌≡◌, true, false, []};
+ghost use Rattle.std.specs.Prelude.{◌≡◌, ◌≤◌, true, false, []};
 ghost use Rattle.base_devices.specs.Causes.{HasCause};
 ghost use Rattle.base_devices.specs.HostCalls.{moment};
-ghost use Rattle.base_notes.specs.declared.action.Action.TheVariants.{Consistent};
+ghost use Rattle.base_notes.specs.declared.action.Action.TheVariants.{Consistent, Exercise};
 ghost use Rattle.cyr_top.specs.Actions.{DoesAction, DrawsFor, IsMade};
 ghost use Rattle.cyr_top.specs.Asked.{asking, is_done};
 ghost use Rattle.db_core.specs.Sessions.{DbLaws};
+ghost use Rattle.db_exercise.specs.declared.changes.TheConstants.{ROUND_LIMIT};
 ghost use Rattle.db_tool.specs.Tasks.{CanAct, given};
 ghost use Rattle.rand_core.specs.Stream.{Stream};
 
@@ -15,6 +16,7 @@ use crate::getting::Acts;
 use base_devices::{Failed, Host};
 use base_notes::{Action, Device, Note};
 use db_core::Db;
+use db_exercise::exercise;
 use db_tool::{HOST_FAULT, act, note_of_opening};
 use rand_core::Rng;
 use std::alloc::Global;
@@ -75,6 +77,28 @@ pub(crate) fn open_and_act<H: Host, B: Db<H> + Drop, F: Files<H, B>, R: Rng>(
     }
 }
 
+// Opens the main file and does generated transactions with it.
+fn open_and_exercise<H: Host, B: Db<H> + Drop, F: Files<H, B>, R: Rng>(
+    alloc: Global,
+    rounds: u32,
+    host: &mut H,
+    rng: &mut R,
+) -> Note
+    requires laws { DbLaws B.kind }
+    requires rounds { rounds ≤ ROUND_LIMIT }
+    ensures does { DoesAction (asking B.kind false (Exercise rounds) (given (R.stream rng.old) []))
+        (moment (H.state host.old) (H.streams host.old))
+        (moment (H.state host.new) (H.streams host.new)) result }
+    ensures draws { DrawsFor (asking B.kind false (Exercise rounds) (given (R.stream rng.old) []))
+        (H.state host.old) (R.stream rng.old) (R.stream rng.new) result }
+    ensures rest { H.host_rest host.old host.new }
+{
+    match F::open_db(alloc, host) {
+        Ok(mut db) => exercise(alloc, rounds, &mut db, host, rng).note,
+        Err(fault) => note_of_opening(Device::Host, fault),
+    }
+}
+
 // Does an action over the main file as it is.
 fn do_action<H: Host, B: Db<H> + Drop, F: Acts<H, B>, R: Rng>(
     alloc: Global,
@@ -93,6 +117,9 @@ fn do_action<H: Host, B: Db<H> + Drop, F: Acts<H, B>, R: Rng>(
 {
     match action {
         Action::Consistent => check::<H, B, F>(alloc, host),
+        Action::Exercise { rounds } => {
+            open_and_exercise::<H, B, F, R>(alloc, *rounds, host, rng)
+        }
         _ => F::act(alloc, action, host, rng),
     }
 }

@@ -22,6 +22,7 @@ use crate::scripting::on_backend;
 use base_devices::{Disk, Host, Spool};
 use base_notes::{Action, Note, Outcome};
 use base_source::Source;
+use db_exercise::ROUND_LIMIT;
 use rand_core::Rng;
 use std::alloc::Global;
 use tool_words::{Job, WordFault, job};
@@ -37,7 +38,8 @@ fn can_do(action: &Action) -> bool
         | Action::Delete { .. }
         | Action::Consistent
         | Action::Batch => true,
-        Action::Repack | Action::Exercise { .. } => false,
+        Action::Exercise { rounds } => *rounds <= ROUND_LIMIT,
+        Action::Repack => false,
     }
 }
 

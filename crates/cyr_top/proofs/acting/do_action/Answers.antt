@@ -16,3 +16,13 @@ pub returns-in-Consistent-clause-draws : goal.returns-in-Consistent-clause-draws
 returns-in-Consistent-clause-draws g c =
     subst (λ (a : Action). DrawsFor (asking g.B.Db.kind false a (given (g.R.Rng.stream c.args.rng.now) [])) (g.H.Disk.state c.args.host.now) (g.R.Rng.stream c.args.rng.now) (g.R.Rng.stream c.args.rng.now) c.check.result) (sym c.in-Consistent.is)
     (checks_draw g.B.Db.kind c.requires.laws (given (g.R.Rng.stream c.args.rng.now) []) (g.H.Disk.state c.args.host.now) (g.R.Rng.stream c.args.rng.now) c.check.result)
+
+pub returns-in-Exercise-clause-does : goal.returns-in-Exercise-clause-does
+returns-in-Exercise-clause-does g c =
+    subst (λ (a : Action). DoesAction (asking g.B.Db.kind false a (given (g.R.Rng.stream c.args.rng.now) [])) (moment (g.H.Disk.state c.args.host.now) (g.H.Host.streams c.args.host.now)) (moment (g.H.Disk.state c.open_and_exercise.new.host) (g.H.Host.streams c.open_and_exercise.new.host)) c.open_and_exercise.result) (sym c.in-Exercise.is)
+    c.open_and_exercise.ensures.does
+
+pub returns-in-Exercise-clause-draws : goal.returns-in-Exercise-clause-draws
+returns-in-Exercise-clause-draws g c =
+    subst (λ (a : Action). DrawsFor (asking g.B.Db.kind false a (given (g.R.Rng.stream c.args.rng.now) [])) (g.H.Disk.state c.args.host.now) (g.R.Rng.stream c.args.rng.now) (g.R.Rng.stream c.open_and_exercise.new.rng) c.open_and_exercise.result) (sym c.in-Exercise.is)
+    c.open_and_exercise.ensures.draws
