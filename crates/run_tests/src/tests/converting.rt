@@ -266,3 +266,38 @@ fn each_call_of_the_new_file_fails(rt: HostRuntime) -> Result<(), Fail> {
     }
     Err("no conversion was whole".into())
 }
+
+// A conversion of which a call of the old file fails: whether it was whole for all that. Else there is no new file, and
+// the old one still has its pair.
+fn is_whole(rt: &impl Abort, alloc: Global, old: &[u8], call: u64) -> Result<bool, Fail> {
+    let row = Row {
+        fails: &[call],
+        ..done("a call fails", TO_FLAT, old, b"")
+    };
+    let (host, second, status) = convert(alloc, &row)?;
+    if status == 0 {
+        return Ok(true);
+    }
+    assert_eq!(rt; (status, second.main()), (74, None), "call {call}");
+    let left = host.disk().main().unwrap_or(b"");
+    let (_, flat, _) = convert(alloc, &done("again", TO_FLAT, left, b""))?;
+    assert_eq!(rt; flat.main(), Some(b"a\tb\n".as_slice()), "call {call}");
+    Ok(false)
+}
+
+// Each call of the old file fails in turn, until none does.
+fn calls_until_whole(rt: &impl Abort, alloc: Global, old: &[u8]) -> Result<u64, Fail> {
+    for call in 1..40u64 {
+        if is_whole(rt, alloc, old, call)? {
+            return Ok(call);
+        }
+    }
+    Err("no conversion was whole".into())
+}
+
+#[test]
+fn each_call_of_the_old_file_fails(rt: HostRuntime) -> Result<(), Fail> {
+    assert_eq!(rt; calls_until_whole(&rt, rt.alloc(), &ONE_PAIR)?, 4);
+    assert!(rt; calls_until_whole(&rt, rt.alloc(), &TORN)? > 6);
+    Ok(())
+}

@@ -9,8 +9,8 @@ use std::test::Fail;
 
 const SHOW: &str = "cyr_dbtool t twoskip show";
 
-// Which of the pending landings are made when a stop comes: none, all, and each second one.
-const LANDED: [[bool; 24]; 4] = [
+/// Which of the pending landings are made when a stop comes: none, all, and each second one.
+pub const LANDED: [[bool; 24]; 4] = [
     [false; 24],
     [true; 24],
     [
