@@ -27,7 +27,7 @@ returns-in-Ok-replace_by-clause-repacks g c =
     let tie = subst (λ (t : SkipSession). Tied t d) (sym c.db.view_is) c.requires.tied in
     subst (λ (t : SkipSession). Repacks {T = Unit {0}} skip_repack (repacked_file (bytes_of t)) (over d (session_state t)) (over e (session_state c.new.result)) (Ok tt)) c.db.view_is
     (done s d sound closed tie (repacked_file (bytes_of s)) c.in-Ok.ensures.repacked c.in-Ok.image.bytes c.in-Ok.ensures.bytes c.in-Ok.ensures.tidy e c.in-Ok-replace_by.ensures.any_moment c.in-Ok.ensures.allowed
-        c.in-Ok-replace_by.field-0 tt c.new.result c.in-Ok-replace_by.ensures.replaces c.in-Ok-replace_by.ensures.cause c.new.ensures)
+    c.in-Ok-replace_by.field-0 tt c.new.result c.in-Ok-replace_by.ensures.replaces c.in-Ok-replace_by.ensures.cause c.new.ensures)
 
 pub returns-in-Ok-replace_by-clause-tied : goal.returns-in-Ok-replace_by-clause-tied
 returns-in-Ok-replace_by-clause-tied g c =
@@ -49,4 +49,4 @@ returns-in-Err-replace_by-clause-repacks g c =
     let tie = subst (λ (t : SkipSession). Tied t d) (sym c.db.view_is) c.requires.tied in
     subst (λ (t : SkipSession). Repacks {T = Unit {0}} skip_repack (repacked_file (bytes_of t)) (over d (session_state t)) (over e (session_state c.give_up.new.self)) (Err DiskFault)) c.db.view_is
     (failed s d sound closed tie (repacked_file (bytes_of s)) c.in-Ok.ensures.repacked c.in-Ok.image.bytes c.in-Ok.ensures.bytes c.in-Ok.ensures.tidy e c.in-Err-replace_by.ensures.any_moment c.in-Ok.ensures.allowed
-        c.in-Err-replace_by.field-0 c.give_up.new.self c.in-Err-replace_by.ensures.cause c.give_up.ensures)
+    c.in-Err-replace_by.field-0 c.give_up.new.self c.in-Err-replace_by.ensures.cause c.give_up.ensures)
