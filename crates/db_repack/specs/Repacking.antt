@@ -2,7 +2,7 @@
 use Rattle.std.specs.Prelude.{◌≡◌, ℕ, false, List, Option, Some, None, Result, OnOk, IfErr, length}
 use Rattle.std.specs.Option.{option_or}
 use Rattle.base_devices.specs.Causes.{FaultHasCause}
-use Rattle.base_devices.specs.CrashImages.{Reads}
+use Rattle.base_devices.specs.CrashImages.{DiskState, Reads}
 use Rattle.base_devices.specs.Frames.{Replaces}
 use Rattle.db_core.specs.Calls.{OnDisk, OpensCommitted}
 use Rattle.db_core.specs.Refusals.{IsAfterRefusal, IsDiskFault, broken_refusal, size_refusal}
@@ -14,6 +14,9 @@ use Rattle.db_core.specs.declared.fault.DbFault.TheVariants.{NoMemory, DiskFault
 pub record RepackKind : Type 1 where
   pub kind : DbKind
   pub repacked : List ℕ → List ℕ → Type 0
+
+abbrev pub repacking_by : DbKind → (List ℕ → List ℕ → Type 0) → RepackKind
+repacking_by kind repacked = record { kind = kind; repacked = repacked }
 
 -- ---- what is refused
 
@@ -30,8 +33,19 @@ MayRefuse kind s size fault = repack_refusal kind s size ≡ Some fault
 -- ---- what is done
 
 -- what the disk reads may be replaced by this file
+abbrev pub MayTakePlace : RepackKind → List ℕ → DiskState → Type 0
+MayTakePlace repack made disk = (file : List ℕ) → Reads disk file → repack.repacked file made
+
 abbrev pub IsRepacked : RepackKind → List ℕ → DbMoment → Type 0
-IsRepacked repack made old = (file : List ℕ) → Reads old.disk file → repack.repacked file made
+IsRepacked repack made old = MayTakePlace repack made old.disk
+
+-- a file that may take the place of what the disk reads now could do so before
+abbrev pub KeepsRepacked : RepackKind → DiskState → DiskState → Type 0
+KeepsRepacked repack old new = (made : List ℕ) → MayTakePlace repack made new → MayTakePlace repack made old
+
+-- one file alone may take the place of another
+abbrev pub RepacksOnce : RepackKind → Type 0
+RepacksOnce repack = (file a b : List ℕ) → repack.repacked file a → repack.repacked file b → a ≡ b
 
 -- The new file takes the place of the main file, and the session goes on over it; or nothing does, for a reason.
 pub record Repacks {T : Type 0} (repack : RepackKind) (made : List ℕ) (old new : DbMoment) (result : Result T DbFault) : Type 0 where

@@ -9,7 +9,7 @@ use Rattle.base_devices.specs.declared.disk.Failed.{Failed}
 use Rattle.base_devices.proofs.Moments.{leaves_told}
 use Rattle.db_core.specs.Sessions.{DbState, at_rest, over}
 use Rattle.db_core.specs.declared.fault.DbFault.TheVariants.{Full, NoMemory, DiskFault}
-use Rattle.db_repack.specs.Repacking.{Repacks, IsRepacked}
+use Rattle.db_repack.specs.Repacking.{Repacks, RepacksOnce, IsRepacked}
 use Rattle.db_repack.proofs.RepackLemmas.{owes_full, owes_none, refuses, fails, repacks}
 use Rattle.flat_db.specs.FlatText.{FlatTextOf, canonical_text}
 use Rattle.flat_db.specs.Kept.{map_among}
@@ -20,6 +20,7 @@ use Rattle.flat_db.specs.declared.pairs.Pairs.{Pairs}
 use Rattle.flat_db.specs.declared.session.Stage.{Stage}
 use Rattle.flat_db.proofs.Canonical.{canonical_reads_back}
 use Rattle.flat_db.proofs.SessionLemmas.{seen_is}
+use Rattle.flat_db.proofs.TextLaws.{text_is_one_map}
 
 -- outside a transaction a session that is not broken is at rest
 is_at_rest : (s : FlatSession) → (flat_state s).is_broken ≡ false → (flat_state s).in_transaction ≡ false → flat_state s ≡ at_rest (flat_state s).committed 0
@@ -30,6 +31,10 @@ is_at_rest broken sound closed = absurd (cc sound)
 -- a text that opens to a map is rewritten as the map's
 rewritten : (file : List ℕ) (m n : Map) → flat_opens (Some file) m → n ≡ m → FlatRepacked file (canonical_text n)
 rewritten file m n opens same = let is : opens.bytes ≡ file = cc opens.there in (m, subst (λ (b : List ℕ). FlatTextOf b m) is opens.so, ap canonical_text same)
+
+-- and one text alone takes its place
+pub flat_repacks_once : RepacksOnce flat_repack
+flat_repacks_once file a b one other = one.2 ∙ ap canonical_text (text_is_one_map file one.0 other.0 one.1 other.1) ∙ sym other.2
 
 module _ (bytes : List ℕ) (seen : Pairs) (stage : Stage) (s : FlatSession) (view : session_of bytes seen stage ≡ s) (session : IsSession bytes seen stage) (d : DiskState) (moment : IsMoment d)
     (sound : (flat_state s).is_broken ≡ false) (closed : (flat_state s).in_transaction ≡ false) (tie : FlatTied s d) where

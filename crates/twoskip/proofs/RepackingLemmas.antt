@@ -15,7 +15,7 @@ use Rattle.db_core.specs.Refusals.{IsDiskFault}
 use Rattle.db_core.specs.Sessions.{at_rest, over}
 use Rattle.db_core.specs.declared.fault.DbFault.{DbFault}
 use Rattle.db_core.specs.declared.fault.DbFault.TheVariants.{DiskFault}
-use Rattle.db_repack.specs.Repacking.{IsRepacked, MayRefuse, Repacks, repack_refusal}
+use Rattle.db_repack.specs.Repacking.{IsRepacked, MayRefuse, Repacks, RepacksOnce, repack_refusal}
 use Rattle.db_repack.proofs.RepackLemmas.{OpensNow, fails, fits_limit, refuses, repacks}
 use Rattle.skip_form.specs.declared.head.Kind as kinds
 use Rattle.skip_form.specs.declared.header.Header.{Header}
@@ -27,8 +27,8 @@ use Rattle.skip_spec.specs.Change.{last_at}
 use Rattle.skip_spec.specs.FirstFlaw.{end_of}
 use Rattle.skip_spec.specs.Live.{Live}
 use Rattle.skip_spec.specs.Successor.{successor_under}
-use Rattle.skip_spec.specs.Layout.{FitsLayout, IsFresh, IsItem, Item, Repacked, fresh_contents, fresh_entries, fresh_layout, fresh_size, items_of, next_generation, pairs_of, records_size}
-use Rattle.skip_spec.specs.Opens.{Contents, Opens, Reads, Tidy}
+use Rattle.skip_spec.specs.Layout.{IsItem, Item, Repacked, fresh_contents, fresh_entries, fresh_layout, fresh_size, items_of, next_generation, pairs_of, records_size}
+use Rattle.skip_spec.specs.Opens.{Contents, Reads, Tidy}
 use Rattle.skip_spec.specs.Records.{head_size_of, key_in, value_in}
 use Rattle.skip_spec.proofs.Kept.{row_at}
 use Rattle.skip_spec.proofs.LayoutLemmas.{fresh}
@@ -37,6 +37,7 @@ use Rattle.skip_spec.proofs.Lives.{live_few}
 use Rattle.skip_spec.proofs.Meanings.{chain_rises}
 use Rattle.skip_spec.proofs.Places.{within, laid-rows}
 use Rattle.skip_spec.proofs.SameLog.{tidy_live}
+use Rattle.skip_spec.proofs.Unique.{reads_same}
 use Rattle.skip_layout.specs.Items.{FitsRecord}
 use Rattle.skip_kind.specs.Kind.{skip_kind, skip_opens}
 use Rattle.skip_image.specs.Image.{CanStep, HasRecord}
@@ -192,6 +193,12 @@ module _ (old : List ℕ) (is : IsTidyFile old) (bytes : AreBytes old) where
         flags_fit = omega (arith, is.reads.fields.flags, ap (λ (h : Header). h.flags) header_is);
         clean = omega arith;
       })
+
+-- one file alone takes the place of another, since a file says one thing
+pub skip_repacks_once : RepacksOnce skip_repack
+skip_repacks_once file a b one other =
+    let same : one.0 ≡ other.0 = reads_same file one.0 other.0 one.1 other.1 in
+    one.2 ∙ (λ i. fresh_layout (next_generation (same i).header.generation) ((same i).header.flags / 2 * 2) (items_of (same i).chain)) ∙ sym other.2
 
 -- ---- the session over it
 

@@ -1,5 +1,5 @@
 -- A file that was read, before it is settled and after, and the disk of its opening.
-use Rattle.std.proofs.Common.{◌≡◌, ⊎_elim, inl, inr, ℕ, ◌≤◌, ◌%◌, Bool, true, false, List, Option, Some, None, Result, Ok, Err, length, refl, sym, ap, ◌∙◌, subst, arith}
+use Rattle.std.proofs.Common.{◌≡◌, ⊎_elim, inl, inr, ℕ, ◌*◌, ◌/◌, ◌≤◌, ◌%◌, Bool, true, false, List, Option, Some, None, Result, Ok, Err, length, refl, sym, ap, ◌∙◌, subst, arith}
 use Rattle.std.proofs.lemmas.Bool.{eq-eqb}
 use Rattle.std.proofs.lemmas.Result.{IfErr-weaker}
 use Rattle.std.specs.Prelude.{IfErr, OnOk, IsSome}
@@ -17,18 +17,21 @@ use Rattle.db_core.specs.Opening.{IsDamage, IsDeviceFault, OpensAs, OpensDisk, S
 use Rattle.db_core.specs.Sessions.{at_rest}
 use Rattle.db_core.specs.declared.opening.OpenFault.{OpenFault}
 use Rattle.db_core.specs.declared.opening.OpenFault.TheVariants.{Absent, TooBig, NoMemory, DiskFault, Damaged}
+use Rattle.db_repack.specs.Repacking.{KeepsRepacked}
 use Rattle.skip_form.specs.declared.header.Header.{Header}
 use Rattle.skip_form.specs.Flaws.{header_in}
 use Rattle.skip_form.proofs.HeaderLemmas.{header_flaw-header_bytes}
 use Rattle.skip_spec.specs.Chain.{Entry, pairs}
 use Rattle.skip_spec.specs.Change.{heads_of}
 use Rattle.skip_spec.specs.FirstFlaw.{end_of, is_dirty}
+use Rattle.skip_spec.specs.Layout.{Repacked, fresh_layout, items_of, next_generation}
 use Rattle.skip_spec.specs.Live.{live_under}
 use Rattle.skip_spec.specs.Opens.{Contents, Opens, Reads, Tidy, IsDirty}
 use Rattle.skip_spec.specs.Recovery.{recovered, Recovers}
 use Rattle.skip_spec.specs.Rows.{IsAmong}
 use Rattle.skip_spec.proofs.Lives.{file_lives}
 use Rattle.skip_spec.proofs.Meanings.{opens_one}
+use Rattle.skip_spec.proofs.Unique.{reads_same as one_reading}
 use Rattle.skip_lists.specs.Tie.{Recoverable, LeavesMap, OnBytes}
 use Rattle.skip_image.specs.Verifying.{IsVerified}
 use Rattle.skip_recover.specs.Places.{RepairsInPlace}
@@ -36,6 +39,7 @@ use Rattle.skip_kind.specs.Kind.{skip_kind}
 use Rattle.skip_kind.proofs.KindLaws.{opens_sound}
 use Rattle.skip_txn.specs.Sessions.{SkipSession, resting, session_state, Tied}
 use Rattle.twoskip.specs.Opening.{IsRead, IsSettled, SettlesDisk, WhereSettled}
+use Rattle.twoskip.specs.Repacking.{skip_repack}
 use Rattle.twoskip.proofs.OpeningLemmas.{verified_opens}
 
 -- ---- a tidy file that a crash leaves alone
@@ -66,6 +70,18 @@ tidy_tied file says s reads tidy within moment durable read = record {
   };
   fits = omega (arith, within);
 }
+
+-- what takes the place of a repaired file takes that of the file from before: it has no DIRTY, and all else is kept
+recovered_repacked : (file new : List ℕ) (says : Contents) → Reads file says → Reads new (recovered says) → (made : List ℕ) → Repacked new made → Repacked file made
+recovered_repacked file new says reads now made is =
+    let same : is.0 ≡ recovered says = one_reading new is.0 (recovered says) is.1 now in
+    let half : says.header.flags / 2 * 2 / 2 * 2 ≡ says.header.flags / 2 * 2 = omega arith in (
+      says,
+      reads,
+      is.2
+          ∙ (λ i. fresh_layout (next_generation (same i).header.generation) ((same i).header.flags / 2 * 2) (items_of (same i).chain))
+          ∙ (λ i. fresh_layout (next_generation says.header.generation) (half i) (items_of says.chain)),
+    )
 
 -- ---- a file that was read
 
@@ -100,6 +116,7 @@ module _ (file : List ℕ) (count : ℕ) (clean : Bool) (s : DiskState) (is : Is
       rests = λ m opens. tidy_state file says is.verified.reads (tidy_of set) ∙ sym (λ i. at_rest (one_map m opens i) (end_is i));
       tied = tidy_tied file says s is.verified.reads (tidy_of set) is.within moment is.durable is.reads;
       durable = is.durable;
+      repacked = λ made is. is;
     }
 
     pub clean_disk : SettlesDisk file clean s s
@@ -136,6 +153,7 @@ module _ (file : List ℕ) (count : ℕ) (clean : Bool) (s : DiskState) (is : Is
             rests = λ m opens. tidy_state new (recovered says) now tidy ∙ sym (λ i. at_rest (one_map m opens i) (end_is i));
             tied = tidy_tied new (recovered says) t now tidy (omega (arith, place.no_longer, is.within)) later durable reads;
             durable = durable;
+            repacked = recovered_repacked file new says is.verified.reads now;
           }
 
       both : (m : Map) (c : Image) → OnBytes (λ left. Opens left m) c → OnBytes (λ left. length left ≤ SKIP_LIMIT) c → OnBytes (λ left. Opens left m × (length left ≤ SKIP_LIMIT)) c
@@ -190,6 +208,12 @@ module _ (old mid new : DiskState) (file : List ℕ) (count : ℕ) (clean : Bool
 
   pub reads_same : WhereSettled skip_kind old (new.reads ≡ old.reads)
   reads_same main reads settled = (still main reads settled).1 ∙ same
+
+  -- what takes the place of the settled file could take that of the one that was read
+  pub repacked_alike : (after : List ℕ) → GoesOn old new → IsSettled file after new → (Shows new → devices.Reads new after) → KeepsRepacked skip_repack old new
+  repacked_alike after time settled reads made takes main is =
+      let same : main ≡ file = cc (there (Some main) is) in
+      subst (λ (b : List ℕ). Repacked b made) (sym same) (settled.repacked made (takes after (reads (time.telling.1 (subst IsSome (sym is) refl)))))
 
   pub opens_in_place : {B : Type 0} (result : Result B OpenFault) → GoesOn old mid → GoesOn mid new → IsMoment new → OnOk result (IsDurable new) → IfErr result IsDeviceFault → OpensDisk skip_kind old new result
   opens_in_place {B = B} result first second moment durable fault = record {

@@ -8,6 +8,7 @@ use Rattle.base_devices.specs.CrashImages.{DiskState, IsDurable, LeavesOnly, Sho
 use Rattle.base_devices.specs.Frames.{MayLeaveLess}
 use Rattle.db_core.specs.Sessions.{DbKind, at_rest}
 use Rattle.skip_spec.specs.FirstFlaw.{end_of}
+use Rattle.skip_spec.specs.Layout.{Repacked}
 use Rattle.skip_spec.specs.Opens.{Contents, Opens, Reads, Tidy}
 use Rattle.skip_lists.specs.Tie.{LeavesEach}
 use Rattle.skip_image.specs.Verifying.{IsVerified}
@@ -27,6 +28,8 @@ pub record IsSettled (old new : List ℕ) (disk : DiskState) : Type 0 where
   pub rests : (m : Map) → Opens old m → session_state (resting new) ≡ at_rest m (end_of old)
   pub tied : Tied (resting new) disk
   pub durable : IsDurable disk
+  -- what may take its place could take the place of the one that was read
+  pub repacked : (made : List ℕ) → Repacked new made → Repacked old made
 
 -- Each image left is a file of the map of the one that was read, and of a clean one nothing changes.
 pub record SettlesDisk (file : List ℕ) (clean : Bool) (before now : DiskState) : Type 0 where

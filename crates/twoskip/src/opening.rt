@@ -6,10 +6,12 @@ ghost use Rattle.base_devices.specs.CrashImages.{Shows, WhereRead};
 ghost use Rattle.base_devices.specs.DiskCalls.{HasLength};
 ghost use Rattle.base_devices.specs.Frames.{StaysAs};
 ghost use Rattle.db_core.specs.Opening.{ChecksAs, IsDamage, IsDeviceFault, IsOpenRefusal, OpensAs, OpensDisk};
+ghost use Rattle.db_repack.specs.Repacking.{KeepsRepacked};
 ghost use Rattle.skip_image.specs.Verifying.{IsVerified};
 ghost use Rattle.skip_kind.specs.Kind.{skip_kind};
 ghost use Rattle.skip_txn.specs.Sessions.{Tied, session_state};
 ghost use Rattle.twoskip.specs.Opening.{IsRead, IsSettled, SettlesDisk, WhereSettled};
+ghost use Rattle.twoskip.specs.Repacking.{skip_repack};
 
 use crate::session::Twoskip;
 use base_bytes::{Damage, SKIP_LIMIT};
@@ -93,13 +95,15 @@ fn settle<D: Disk>(image: &mut Image, disk: &mut D, clean: bool) -> Result<(), O
 /// stop left dirty is repaired; no other one is written.
 ///
 /// The file is synced before it is read, so that a crash later leaves no other one than was read, or than its
-/// repair makes of it. An absent file is not synced, and one over the limit is refused as soon as its length is
+/// repair makes of it. A repair keeps levels and generation, so that a repack then gives what it would have given. An absent file is not synced, and one over the limit is refused as soon as its length is
 /// known.
 pub fn open_db<D: Disk>(alloc: Global, disk: &mut D) -> Result<Twoskip, OpenFault>
     ensures opens { OpensAs skip_kind session_state (D.state disk.old) result }
     ensures disk { OpensDisk skip_kind (D.state disk.old) (D.state disk.new) result }
     ensures reads { OnOk result (WhereSettled skip_kind (D.state disk.old)
         ((D.state disk.new).reads ≡ (D.state disk.old).reads)) }
+    ensures repacked { OnOk result
+        (KeepsRepacked skip_repack (D.state disk.old) (D.state disk.new)) }
     ensures cause { FaultHasCause IsDeviceFault (D.state disk.old).faults (D.state disk.new).faults
         result }
     ensures tied { IfOk result (λ db. Tied db (D.state disk.new)) }

@@ -7,7 +7,6 @@ use Rattle.skip_form.specs.Flaws.{header_in}
 use Rattle.skip_kind.specs.Kind.{skip_kind}
 use Rattle.skip_layout.specs.Items.{FitsRecord, items_in}
 use Rattle.skip_seek.specs.Searches.{IsLive, live_of}
-use Rattle.skip_spec.specs.Chain.{Entry}
 use Rattle.skip_spec.specs.Layout.{Item, fresh_layout, fresh_size, next_generation}
 use Rattle.skip_txn.specs.Sessions.{bytes_of, session_state}
 use Rattle.twoskip.specs.Repacking.{IsRepackedFile, live_items_of, repacked_file}
