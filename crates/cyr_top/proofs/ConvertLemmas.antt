@@ -39,7 +39,7 @@ use Rattle.cyr_top.specs.Rebuilding.{IsRebuildNote}
 use Rattle.cyr_top.specs.Stated.{IsBuilt, IsUnopened, SamePrints}
 use Rattle.cyr_top.proofs.ActLemmas.{device_of, note_of}
 use Rattle.cyr_top.proofs.JobLemmas.{laws_of}
-use Rattle.cyr_top.proofs.StatedLemmas.{opens_fails, opens_once, unopened_once}
+use Rattle.cyr_top.proofs.StatedLemmas.{as_unopened, opens_fails, opens_once, unopened_once}
 
 -- ---- notes
 
@@ -50,7 +50,7 @@ opening_notes NoRoom = tt
 opening_notes NoDisk = tt
 opening_notes (Flawed at flaw) = tt
 
-opening_not_done : (fault : OpenFault) → opening_note Host fault ≡ Done → ⊥
+pub opening_not_done : (fault : OpenFault) → opening_note Host fault ≡ Done → ⊥
 opening_not_done NoFile e = cc e
 opening_not_done (TooBig size) e = cc e
 opening_not_done NoRoom e = cc e
@@ -142,7 +142,7 @@ refused_notes kind m words (Full n) sound may = tt
 
 -- ---- faults of the devices
 
-host_faults : {T : Type 0} (fault : OpenFault) (before now : ℕ) → FaultHasCause {T = T} IsDeviceFault before now (Err fault) → Faults Host (opening_note Host fault) before now
+pub host_faults : {T : Type 0} (fault : OpenFault) (before now : ℕ) → FaultHasCause {T = T} IsDeviceFault before now (Err fault) → Faults Host (opening_note Host fault) before now
 host_faults fault before now cause = record {
   rose = λ is. cause.rose (device_of fault is);
   stood = λ other. ⊎_elim (λ failed. absurd (other (note_of fault failed))) (λ same. same) cause.stood;
@@ -165,7 +165,7 @@ failed_note DiskFault is = refl
 failed_note fault is = absurd is
 
 -- a note that names no device
-no_faults : (device : Device) (note : Note) (before now : ℕ) → (note ≡ DeviceFault device → ⊥) → now ≡ before → Faults device note before now
+pub no_faults : (device : Device) (note : Note) (before now : ℕ) → (note ≡ DeviceFault device → ⊥) → now ≡ before → Faults device note before now
 no_faults device note before now other same = record { rose = λ is. absurd (other is); stood = λ no. same }
 
 -- ---- the old file
@@ -194,12 +194,8 @@ module _ (kind : DbKind) (laws : DbLaws kind) (fill : FillKind) (words : Stream)
 
   -- ---- the note is stated once
 
-  as_unopened : (main : Image) (fault : OpenFault) → DoesNotOpen kind main fault → IsUnopened plainly main fault
-  as_unopened main NoFile is = (is, λ make. cc make)
-  as_unopened main (TooBig size) is = is
-  as_unopened main (Flawed at flaw) is = is
-  as_unopened main NoRoom is = absurd is
-  as_unopened main NoDisk is = absurd is
+  plain_unopened : (main : Image) (fault : OpenFault) → DoesNotOpen kind main fault → IsUnopened plainly main fault
+  plain_unopened main fault is = as_unopened plainly laws main fault (λ make. cc make) is
 
   stated_once : (from to : Image) (n m : Note) → StatedConversion asked words from to n → StatedConversion asked words from to m → n ≡ m
   stated_once from to n m (exists bytes there is) (exists other there_too is_too) = is ∙ sym is_too
@@ -207,10 +203,10 @@ module _ (kind : DbKind) (laws : DbLaws kind) (fill : FillKind) (words : Stream)
   stated_once from to n m (exists bytes there is) (filled s none opens is_too) = absurd (cc (there, none))
   stated_once from to n m (unopened fault none un is) (exists bytes there is_too) = absurd (cc (there, none))
   stated_once from to n m (unopened fault none un is) (unopened found none_too un_too is_too) =
-      is ∙ ap (λ (f : OpenFault). opening_note Host f) (unopened_once plainly laws from fault found (as_unopened from fault un) (as_unopened from found un_too)) ∙ sym is_too
-  stated_once from to n m (unopened fault none un is) (filled s none_too opens is_too) = absurd (opens_fails plainly laws from s fault opens (as_unopened from fault un))
+      is ∙ ap (λ (f : OpenFault). opening_note Host f) (unopened_once plainly laws from fault found (plain_unopened from fault un) (plain_unopened from found un_too)) ∙ sym is_too
+  stated_once from to n m (unopened fault none un is) (filled s none_too opens is_too) = absurd (opens_fails plainly laws from s fault opens (plain_unopened from fault un))
   stated_once from to n m (filled s none opens is) (exists bytes there is_too) = absurd (cc (there, none))
-  stated_once from to n m (filled s none opens is) (unopened fault none_too un is_too) = absurd (opens_fails plainly laws from s fault opens (as_unopened from fault un))
+  stated_once from to n m (filled s none opens is) (unopened fault none_too un is_too) = absurd (opens_fails plainly laws from s fault opens (plain_unopened from fault un))
   stated_once from to n m (filled s none opens is) (filled t none_too opens_too is_too) =
       is ∙ ap (λ (x : DbState). filled_note (fill_refusal fill x.committed words)) (opens_once plainly laws from s t opens opens_too) ∙ sym is_too
 

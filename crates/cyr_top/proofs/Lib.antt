@@ -6,5 +6,7 @@ pub mod GetLemmas
 pub mod JobLemmas
 pub mod MakeLemmas
 pub mod RebuildingLemmas
+pub mod RepackLemmas
+pub mod RepackMade
 pub mod ScriptLemmas
 pub mod StatedLemmas

@@ -25,6 +25,7 @@ use Rattle.db_script.specs.Batch.{IsScriptNote}
 use Rattle.db_tool.specs.Tasks.{CanAct, Given, Task, changing_by, lacks_key, task_if, task_of}
 use Rattle.db_tool.specs.ToolNotes.{IsFault, IsCutOff, change_note, opening_note}
 use Rattle.cyr_top.specs.Asked.{Asked, is_done, task_by, task_for}
+use Rattle.cyr_top.specs.Converting.{DoesNotOpen}
 use Rattle.cyr_top.specs.Stated.{StartsFrom, IsUnopened, StatedResult, acted, unopened, unopened_note, unopened_output, IsBuilt, IsNoteOf}
 use Rattle.cyr_top.proofs.ScriptLemmas.{script_good, script_silent}
 
@@ -46,6 +47,14 @@ module _ (asked : Asked) (laws : DbLaws asked.kind) where
       laws.never_both un.bytes opens.map (record { at = at; check = check }) (subst (λ (i : Image). asked.kind.opens i opens.map) un.there opens.opens) un.so
   opens_fails main s NoRoom opens un = un
   opens_fails main s NoDisk opens un = un
+
+  -- why a file does not open is why an action is refused that does not make it
+  pub as_unopened : (main : Image) (fault : OpenFault) → (asked.make ≡ true → ⊥) → DoesNotOpen asked.kind main fault → IsUnopened asked main fault
+  as_unopened main NoFile unmade is = (is, unmade)
+  as_unopened main (TooBig size) unmade is = is
+  as_unopened main (Flawed at check) unmade is = is
+  as_unopened main NoRoom unmade is = absurd is
+  as_unopened main NoDisk unmade is = absurd is
 
   pub starts_fails : (main : Image) (s : DbState) (fault : OpenFault) → StartsFrom asked main s → IsUnopened asked main fault → ⊥
   starts_fails main s fault (inl opens) un = opens_fails main s fault opens un
@@ -131,7 +140,7 @@ built_of_action Repack note done is = is
 built_of_action Batch note done is = absurd (cc done)
 built_of_action (Exercise rounds) note done is = is
 
-refused_built : (fault : DbFault) → IsBuilt (change_note Host fault)
+pub refused_built : (fault : DbFault) → IsBuilt (change_note Host fault)
 refused_built Broken = tt
 refused_built KeyEmpty = tt
 refused_built (KeyTooLong n) = tt
@@ -140,7 +149,7 @@ refused_built (Full n) = tt
 refused_built NoMemory = tt
 refused_built DiskFault = tt
 
-refused_no_usage : (fault : DbFault) → change_note Host fault ≡ Usage → ⊥
+pub refused_no_usage : (fault : DbFault) → change_note Host fault ≡ Usage → ⊥
 refused_no_usage Broken is = cc is
 refused_no_usage KeyEmpty is = cc is
 refused_no_usage (KeyTooLong n) is = cc is

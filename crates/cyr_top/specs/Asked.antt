@@ -1,17 +1,19 @@
--- What a command line asks of a database, and which jobs are built. What it asks of a folder stands in Rebuilding, and of two
--- files in Converting.
+-- What a command line asks of a database, and which jobs are built. What it asks of a folder stands in Rebuilding, of two
+-- files in Converting, and what a repack owes in Repacking.
 use Rattle.std.specs.Prelude.{◌≡◌, Bool, true, false, List, [], ℕ, leb, Option, None, Some, option_and_then, if◌then◌else◌}
 use Rattle.base_notes.specs.declared.action.Action.{Action}
-use Rattle.base_notes.specs.declared.action.Action.TheVariants.{Batch, Consistent, Exercise, Show, Get, Set, Delete}
+use Rattle.base_notes.specs.declared.action.Action.TheVariants.{Batch, Consistent, Exercise, Repack, Show, Get, Set, Delete}
 use Rattle.base_notes.specs.declared.action.Backend.{Backend}
 use Rattle.base_notes.specs.declared.action.Backend.TheVariants.{Flat, Twoskip}
 use Rattle.db_core.specs.Sessions.{DbKind, DbState}
 use Rattle.db_exercise.specs.Exercise.{exercise_task}
 use Rattle.db_exercise.specs.declared.changes.TheConstants.{ROUND_LIMIT}
 use Rattle.db_fill.specs.Filling.{FillKind}
+use Rattle.db_repack.specs.Repacking.{RepackKind}
 use Rattle.db_script.specs.Scripts.{script_task}
 use Rattle.db_tool.specs.Tasks.{Given, Task, given, task_of}
 use Rattle.flat_db.specs.Filling.{flat_fill}
+use Rattle.flat_db.specs.Repacking.{flat_repack}
 use Rattle.flat_db.specs.Sessions.{flat_kind}
 use Rattle.skip_kind.specs.Kind.{skip_kind}
 use Rattle.rand_core.specs.Stream.{Stream}
@@ -19,6 +21,7 @@ use Rattle.tool_words.specs.JobOf.{job_of}
 use Rattle.tool_words.specs.declared.jobs.Job.{Job}
 use Rattle.tool_words.specs.declared.jobs.Job.TheVariants.{Convert, Dbtool, Reconstruct}
 use Rattle.twoskip.specs.Filling.{skip_fill}
+use Rattle.twoskip.specs.Repacking.{skip_repack}
 
 -- An action over a database of some kind, which is made where it is absent if `make` says so.
 pub record Asked : Type 1 where
@@ -50,6 +53,10 @@ abbrev pub fill_of : Backend → FillKind
 fill_of Flat = flat_fill
 fill_of Twoskip = skip_fill
 
+abbrev pub repack_of : Backend → RepackKind
+repack_of Flat = flat_repack
+repack_of Twoskip = skip_repack
+
 -- ---- the jobs that are built, in one place: all others end with `usage` as wrong words do
 
 abbrev pub is_done : Action → Bool
@@ -65,8 +72,12 @@ abbrev pub reads_script : Action → Bool
 reads_script Batch = true
 reads_script action = false
 
+abbrev pub is_repack : Action → Bool
+is_repack Repack = true
+is_repack action = false
+
 abbrev pub is_ready : Action → Bool
-is_ready action = if reads_script action then true else is_done action
+is_ready action = if reads_script action then true else (if is_repack action then true else is_done action)
 
 abbrev pub is_built : Job → Bool
 is_built (Dbtool make file backend action) = is_ready action
@@ -95,6 +106,15 @@ inputs words left = record { words = words; left = left }
 abbrev pub OnScript : Action → Option (List ℕ) → (List ℕ → Type 0) → Type 0
 OnScript Batch left P = (script : List ℕ) → left ≡ Some script → P script
 OnScript action left P = P []
+
+-- P holds of a repack, and of every other action: what a repack owes stands in Repacking
+abbrev pub IfRepack : Action → Type 0 → Type 0
+IfRepack Repack P = P
+IfRepack action P = Unit {0}
+
+abbrev pub UnlessRepack : Action → Type 0 → Type 0
+UnlessRepack Repack P = Unit {0}
+UnlessRepack action P = P
 
 -- P holds of a job over one database, by the kind of its backend
 abbrev pub OnDatabase : Inputs → (Asked → Type 0) → Job → Type 0

@@ -3,4 +3,5 @@ pub mod Asked
 pub mod Converting
 pub mod Crashes
 pub mod Rebuilding
+pub mod Repacking
 pub mod Stated

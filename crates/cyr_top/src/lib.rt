@@ -5,11 +5,12 @@
 //!   acting     an action over a file: made, checked, or opened and done
 //!   getting    the same by what a backend is best at: one value is looked for in flat text, and no map is made
 //!   checking   the line that a check prints
-//!   scripting  a script of standard input is done over a file
+//!   scripting  a script of standard input, a repack or an action is done over a file
+//!   repacking  a file is rewritten afresh
 //!   converting a database becomes a new file of the other kind
 //!   rebuilding the index of a folder is rebuilt
 //! What a run owes stands in specs/: Asked (what the words ask), Stated (note and output), Actions (what is left),
-//! Crashes (the promises in words of maps and transactions), Converting and Rebuilding.
+//! Crashes (the promises in words of maps and transactions), Converting, Rebuilding and Repacking.
 #![tactic(auto)]
 
 mod acting;
@@ -18,6 +19,7 @@ mod converting;
 mod files;
 mod getting;
 mod rebuilding;
+mod repacking;
 mod running;
 mod scripting;
 

@@ -8,10 +8,11 @@ ghost use Rattle.base_notes.specs.Notes.{status_of};
 ghost use Rattle.base_notes.specs.declared.note.Device.TheVariants.{Input as InputDevice, Second as SecondDevice, Spool as SpoolDevice};
 ghost use Rattle.base_notes.specs.declared.note.Note.{Note};
 ghost use Rattle.cyr_top.specs.Actions.{DoesAction, DrawsFor, but_warned};
-ghost use Rattle.cyr_top.specs.Asked.{IfUnasked, OnDatabase, OnOneDatabase, WhereAsked, WhereBuilt, built_job_of, inputs, is_built, is_ready};
+ghost use Rattle.cyr_top.specs.Asked.{IfUnasked, OnDatabase, OnOneDatabase, UnlessRepack, WhereAsked, WhereBuilt, built_job_of, inputs, is_built, is_ready};
 ghost use Rattle.cyr_top.specs.Converting.{DoesConversion, OnConversion, WhereConverting, with_both};
 ghost use Rattle.cyr_top.specs.Crashes.{StartsAt, LeavesPrefixes, LeavesAtEnd, KeepsPromises};
 ghost use Rattle.cyr_top.specs.Rebuilding.{DoesRebuild, OnFolder, WhereRebuilding, rebuild_of};
+ghost use Rattle.cyr_top.specs.Repacking.{DoesRepack, OnRepack, WhereRepacking};
 ghost use Rattle.cyr_top.specs.Stated.{StatedResult, Ran, Warns, SamePrints};
 ghost use Rattle.db_core.specs.Sessions.{DbState};
 ghost use Rattle.db_tool.specs.ToolNotes.{Faults, IsFault, IsCutOff};
@@ -37,9 +38,9 @@ fn can_do(action: &Action) -> bool
         | Action::Set { .. }
         | Action::Delete { .. }
         | Action::Consistent
-        | Action::Batch => true,
+        | Action::Batch
+        | Action::Repack => true,
         Action::Exercise { rounds } => *rounds <= ROUND_LIMIT,
-        Action::Repack => false,
     }
 }
 
@@ -57,12 +58,18 @@ fn do_job<H: Host, D: Disk, S: Spool, I: Source, R: Rng>(
     requires { GaveNoName (S.state spool.old) }
     ensures does { is_built job.now ≡ true → OnDatabase
         (inputs (R.stream rng.old) (I.state input.old).left)
-        (λ asked. DoesAction asked (moment (H.state host.old) (H.streams host.old))
-        (moment (H.state host.new) (H.streams host.new)) result) job.now }
+        (λ asked. UnlessRepack asked.action
+        (DoesAction asked (moment (H.state host.old) (H.streams host.old))
+        (moment (H.state host.new) (H.streams host.new)) result)) job.now }
     ensures draws { is_built job.now ≡ true → OnDatabase
         (inputs (R.stream rng.old) (I.state input.old).left)
-        (λ asked. DrawsFor asked (H.state host.old) (R.stream rng.old) (R.stream rng.new) result)
-        job.now }
+        (λ asked. UnlessRepack asked.action
+        (DrawsFor asked (H.state host.old) (R.stream rng.old) (R.stream rng.new) result)) job.now }
+    ensures repacks { is_built job.now ≡ true → OnRepack
+        (λ asked. DoesRepack asked (H.state host.old) (H.state host.new) result) job.now }
+    ensures rewrites { is_built job.now ≡ true → OnRepack
+        (λ _. (H.streams host.new ≡ H.streams host.old)
+        × (R.stream rng.new ≡ R.stream rng.old)) job.now }
     ensures unread { OnOneDatabase ((spool.new ≡ spool.old) × (second.new ≡ second.old)) job.now }
     ensures unasked { IfUnasked (input.new ≡ input.old) job.now }
     ensures rebuilds { OnFolder (λ options. DoesRebuild (rebuild_of (S.state spool.old) now options)
@@ -123,11 +130,18 @@ fn do_words<H: Host, D: Disk, S: Spool, I: Source, R: Rng>(
     requires { GaveNoName (S.state spool.old) }
     ensures does { WhereAsked (map string_bytes words.now)
         (inputs (R.stream rng.old) (I.state input.old).left)
-        (λ asked. DoesAction asked (moment (H.state host.old) (H.streams host.old))
-        (moment (H.state host.new) (H.streams host.new)) result) }
+        (λ asked. UnlessRepack asked.action
+        (DoesAction asked (moment (H.state host.old) (H.streams host.old))
+        (moment (H.state host.new) (H.streams host.new)) result)) }
     ensures draws { WhereAsked (map string_bytes words.now)
         (inputs (R.stream rng.old) (I.state input.old).left)
-        (λ asked. DrawsFor asked (H.state host.old) (R.stream rng.old) (R.stream rng.new) result) }
+        (λ asked. UnlessRepack asked.action
+        (DrawsFor asked (H.state host.old) (R.stream rng.old) (R.stream rng.new) result)) }
+    ensures repacks { WhereRepacking (map string_bytes words.now)
+        (λ asked. DoesRepack asked (H.state host.old) (H.state host.new) result) }
+    ensures rewrites { WhereRepacking (map string_bytes words.now)
+        (λ _. (H.streams host.new ≡ H.streams host.old)
+        × (R.stream rng.new ≡ R.stream rng.old)) }
     ensures unread { WhereBuilt (map string_bytes words.now)
         (OnOneDatabase ((spool.new ≡ spool.old) × (second.new ≡ second.old))) }
     ensures unasked { WhereBuilt (map string_bytes words.now) (IfUnasked (input.new ≡ input.old)) }
@@ -198,13 +212,19 @@ pub fn run_job<H: Host, D: Disk, S: Spool, I: Source, R: Rng>(
     requires { GaveNoName (S.state spool.old) }
     ensures promises { is_built job.now ≡ true → OnDatabase
         (inputs (R.stream rng.old) (I.state input.old).left)
-        (λ asked. KeepsPromises asked (moment (H.state host.old) (H.streams host.old))
-        (but_warned (H.state host.new) (H.streams host.old) (H.streams host.new)) result.note)
+        (λ asked. UnlessRepack asked.action
+        (KeepsPromises asked (moment (H.state host.old) (H.streams host.old))
+        (but_warned (H.state host.new) (H.streams host.old) (H.streams host.new)) result.note))
         job.now }
     ensures draws { is_built job.now ≡ true → OnDatabase
         (inputs (R.stream rng.old) (I.state input.old).left)
-        (λ asked. DrawsFor asked (H.state host.old) (R.stream rng.old) (R.stream rng.new)
-        result.note) job.now }
+        (λ asked. UnlessRepack asked.action (DrawsFor asked (H.state host.old)
+        (R.stream rng.old) (R.stream rng.new) result.note)) job.now }
+    ensures repacks { is_built job.now ≡ true → OnRepack
+        (λ asked. DoesRepack asked (H.state host.old) (H.state host.new) result.note) job.now }
+    ensures rewrites { is_built job.now ≡ true → OnRepack
+        (λ _. SamePrints (H.streams host.old) (H.streams host.new)
+        × (R.stream rng.new ≡ R.stream rng.old)) job.now }
     ensures rebuilds { OnFolder (λ options. DoesRebuild (rebuild_of (S.state spool.old) now options)
         (moment (H.state host.old) (H.streams host.old))
         (but_warned (H.state host.new) (H.streams host.old) (H.streams host.new)) result.note)
@@ -271,23 +291,33 @@ pub fn run<H: Host, D: Disk, S: Spool, I: Source, R: Rng>(
     // Whatever note and output are stated for the file, the run ends with them, unless it was cut off.
     ensures exactly { WhereAsked (map string_bytes words.now)
         (inputs (R.stream rng.old) (I.state input.old).left)
-        (λ asked. WhereRead (H.state host.old) (λ main. (wanted : Note) (output : List ℕ)
+        (λ asked. UnlessRepack asked.action
+        (WhereRead (H.state host.old) (λ main. (wanted : Note) (output : List ℕ)
         → StatedResult asked main wanted output → IsCutOff result.note ⊎ ((result.note ≡ wanted)
-        × ((H.streams host.new).told ≡ told_with (H.streams host.old).told output)))) }
+        × ((H.streams host.new).told ≡ told_with (H.streams host.old).told output))))) }
 
     // What else is owed of an action: what is left of a file at each moment and at each end, also where it does not
     // open; which calls are not made; and the random words that are drawn.
     ensures does { WhereAsked (map string_bytes words.now)
         (inputs (R.stream rng.old) (I.state input.old).left)
-        (λ asked. DoesAction asked (moment (H.state host.old) (H.streams host.old))
-        (but_warned (H.state host.new) (H.streams host.old) (H.streams host.new)) result.note) }
+        (λ asked. UnlessRepack asked.action
+        (DoesAction asked (moment (H.state host.old) (H.streams host.old))
+        (but_warned (H.state host.new) (H.streams host.old) (H.streams host.new)) result.note)) }
     ensures draws { WhereAsked (map string_bytes words.now)
         (inputs (R.stream rng.old) (I.state input.old).left)
-        (λ asked. DrawsFor asked (H.state host.old) (R.stream rng.old) (R.stream rng.new)
-        result.note) }
+        (λ asked. UnlessRepack asked.action (DrawsFor asked (H.state host.old)
+        (R.stream rng.old) (R.stream rng.new) result.note)) }
     ensures unread { WhereBuilt (map string_bytes words.now)
         (OnOneDatabase ((spool.new ≡ spool.old) × (second.new ≡ second.old))) }
     ensures unasked { WhereBuilt (map string_bytes words.now) (IfUnasked (input.new ≡ input.old)) }
+
+    // A repack that ends with `Done` left the file that takes the old one's place, and nothing else; wherever it stops,
+    // the map is the one from before. Its note is the stated one, it prints nothing, and draws no random words.
+    ensures repacks { WhereRepacking (map string_bytes words.now)
+        (λ asked. DoesRepack asked (H.state host.old) (H.state host.new) result.note) }
+    ensures rewrites { WhereRepacking (map string_bytes words.now)
+        (λ _. SamePrints (H.streams host.old) (H.streams host.new)
+        × (R.stream rng.new ≡ R.stream rng.old)) }
 
     // A rebuild that ends with `Done` printed the stated report and left the stated index; wherever it stops, the index
     // is one that could be left before, or the whole new one. It draws no random words, and no run changes a message.

@@ -1,17 +1,21 @@
-use Rattle.std.proofs.Common.{◌≡◌, sym, subst}
+use Rattle.std.proofs.Common.{◌≡◌, [], map, sym, subst}
+use Rattle.std.specs.Prelude.{string_bytes}
 use Rattle.base_devices.specs.HostCalls.{moment}
 use Rattle.base_notes.specs.declared.note.Note.{Note}
 use Rattle.db_core.specs.Sessions.{DbLaws}
+use Rattle.db_tool.specs.Tasks.{given}
 use Rattle.cyr_top.specs.Actions.{DoesAction, DrawsFor, but_warned}
-use Rattle.cyr_top.specs.Asked.{Asked, inputs}
+use Rattle.cyr_top.specs.Asked.{Asked, UnlessRepack, inputs}
 use Rattle.cyr_top.specs.Crashes.{KeepsPromises}
 use Rattle.cyr_top.specs.Converting.{DoesConversion, with_both}
 use Rattle.cyr_top.specs.Rebuilding.{DoesRebuild, rebuild_of}
+use Rattle.cyr_top.specs.Repacking.{DoesRepack, WhereRepacking}
 use Rattle.cyr_top.specs.Stated.{SamePrints}
 use Rattle.cyr_top.proofs.ConvertLemmas.{converts_still, on_conversion, same_prints}
 use Rattle.cyr_top.proofs.CrashLemmas.{promised}
-use Rattle.cyr_top.proofs.JobLemmas.{on_job}
+use Rattle.cyr_top.proofs.JobLemmas.{on_either, on_job, on_repack, unless_follows}
 use Rattle.cyr_top.proofs.RebuildingLemmas.{on_folder, rebuild_still}
+use Rattle.cyr_top.proofs.RepackMade.{repack_crash, repack_end, repack_still}
 use Rattle.cyr_top.proofs.running.run.Given.{Over}
 use Rattle.cyr_top.proofs.running.run.Goals as goal
 
@@ -21,31 +25,48 @@ promises : (g : Over) (c : goal.After-end_run g) → (asked : Asked) → DbLaws 
 promises g c asked laws does = subst (λ (n : Note). KeepsPromises asked (moment (g.H.Disk.state c.args.host.now) (g.H.Host.streams c.args.host.now)) (but_warned (g.H.Disk.state c.end_run.new.host) (g.H.Host.streams c.args.host.now) (g.H.Host.streams c.end_run.new.host)) n) (sym c.end_run.ensures.note)
     (promised asked laws (g.H.Host.streams c.args.host.now) (g.H.Host.streams c.do_words-note.new.host) (g.H.Host.streams c.end_run.new.host) _ _ _ c.do_words-note.result (g.met.H.Host.host_goes_on _ _ (g.met.H.Host.host_then _ _ _ c.do_words-note.ensures.rest c.end_run.ensures.rest)) (g.met.H.Disk.is_moment _) (g.met.H.Disk.is_moment _) c.end_run.ensures.disk c.end_run.ensures.told c.end_run.ensures.tell_faults does)
 
+-- what is owed of a repack
+repacks_done : (g : Over) (c : goal.After-end_run g) → WhereRepacking (map string_bytes c.args.words.now) (λ asked. DoesRepack asked (g.H.Disk.state c.args.host.now) (g.H.Disk.state c.end_run.new.host) c.end_run.result.note)
+repacks_done g c = λ job is. on_repack
+    (λ asked. DoesRepack asked (g.H.Disk.state c.args.host.now) (g.H.Disk.state c.do_words-note.new.host) c.do_words-note.result)
+    (λ asked. DoesRepack asked (g.H.Disk.state c.args.host.now) (g.H.Disk.state c.end_run.new.host) c.end_run.result.note)
+    (λ asked does. subst (λ (n : Note). DoesRepack asked (g.H.Disk.state c.args.host.now) (g.H.Disk.state c.end_run.new.host) n) (sym c.end_run.ensures.note) (repack_still asked _ _ _ c.do_words-note.result c.end_run.ensures.disk does))
+    job (c.do_words-note.ensures.repacks job is)
+
+pub returns-clause-repacks : goal.returns-clause-repacks
+returns-clause-repacks g c = repacks_done g c
+
 pub returns-clause-crash : goal.returns-clause-crash
-returns-clause-crash g c = λ job is. on_job (inputs (g.R.Rng.stream c.args.rng.now) (g.I.Source.state c.args.input.now).left)
+returns-clause-crash g c = λ job is. on_either (inputs (g.R.Rng.stream c.args.rng.now) (g.I.Source.state c.args.input.now).left)
     (λ asked. DoesAction asked (moment (g.H.Disk.state c.args.host.now) (g.H.Host.streams c.args.host.now)) (moment (g.H.Disk.state c.do_words-note.new.host) (g.H.Host.streams c.do_words-note.new.host)) c.do_words-note.result)
-    _ (λ asked laws does. (promises g c asked laws does).crash) job (c.do_words-note.ensures.does job is)
+    _ (λ asked. DoesRepack asked (g.H.Disk.state c.args.host.now) (g.H.Disk.state c.end_run.new.host) c.end_run.result.note)
+    (λ asked laws does. (promises g c asked laws does).crash)
+    (λ repack make laws does. repack_crash repack laws make (given (g.R.Rng.stream c.args.rng.now) []) _ _ c.end_run.result.note (g.met.H.Host.host_goes_on _ _ (g.met.H.Host.host_then _ _ _ c.do_words-note.ensures.rest c.end_run.ensures.rest)) (g.met.H.Disk.is_moment _) (g.met.H.Disk.is_moment _) does)
+    job (c.do_words-note.ensures.does job is) (repacks_done g c job is)
 
 pub returns-clause-end : goal.returns-clause-end
-returns-clause-end g c = λ job is. on_job (inputs (g.R.Rng.stream c.args.rng.now) (g.I.Source.state c.args.input.now).left)
+returns-clause-end g c = λ job is. on_either (inputs (g.R.Rng.stream c.args.rng.now) (g.I.Source.state c.args.input.now).left)
     (λ asked. DoesAction asked (moment (g.H.Disk.state c.args.host.now) (g.H.Host.streams c.args.host.now)) (moment (g.H.Disk.state c.do_words-note.new.host) (g.H.Host.streams c.do_words-note.new.host)) c.do_words-note.result)
-    _ (λ asked laws does. (promises g c asked laws does).end) job (c.do_words-note.ensures.does job is)
+    _ (λ asked. DoesRepack asked (g.H.Disk.state c.args.host.now) (g.H.Disk.state c.end_run.new.host) c.end_run.result.note)
+    (λ asked laws does. (promises g c asked laws does).end)
+    (λ repack make laws does. repack_end repack laws make (given (g.R.Rng.stream c.args.rng.now) []) _ _ c.end_run.result.note (g.met.H.Host.host_goes_on _ _ (g.met.H.Host.host_then _ _ _ c.do_words-note.ensures.rest c.end_run.ensures.rest)) (g.met.H.Disk.is_moment _) (g.met.H.Disk.is_moment _) does)
+    job (c.do_words-note.ensures.does job is) (repacks_done g c job is)
 
 pub returns-clause-exactly : goal.returns-clause-exactly
 returns-clause-exactly g c = λ job is. on_job (inputs (g.R.Rng.stream c.args.rng.now) (g.I.Source.state c.args.input.now).left)
-    (λ asked. DoesAction asked (moment (g.H.Disk.state c.args.host.now) (g.H.Host.streams c.args.host.now)) (moment (g.H.Disk.state c.do_words-note.new.host) (g.H.Host.streams c.do_words-note.new.host)) c.do_words-note.result)
-    _ (λ asked laws does. (promises g c asked laws does).exactly) job (c.do_words-note.ensures.does job is)
+    (λ asked. UnlessRepack asked.action (DoesAction asked (moment (g.H.Disk.state c.args.host.now) (g.H.Host.streams c.args.host.now)) (moment (g.H.Disk.state c.do_words-note.new.host) (g.H.Host.streams c.do_words-note.new.host)) c.do_words-note.result))
+    _ (λ asked laws. unless_follows asked.action _ _ (λ does. (promises g c asked laws does).exactly)) job (c.do_words-note.ensures.does job is)
 
 pub returns-clause-does : goal.returns-clause-does
 returns-clause-does g c = λ job is. on_job (inputs (g.R.Rng.stream c.args.rng.now) (g.I.Source.state c.args.input.now).left)
-    (λ asked. DoesAction asked (moment (g.H.Disk.state c.args.host.now) (g.H.Host.streams c.args.host.now)) (moment (g.H.Disk.state c.do_words-note.new.host) (g.H.Host.streams c.do_words-note.new.host)) c.do_words-note.result)
-    _ (λ asked laws does. (promises g c asked laws does).does) job (c.do_words-note.ensures.does job is)
+    (λ asked. UnlessRepack asked.action (DoesAction asked (moment (g.H.Disk.state c.args.host.now) (g.H.Host.streams c.args.host.now)) (moment (g.H.Disk.state c.do_words-note.new.host) (g.H.Host.streams c.do_words-note.new.host)) c.do_words-note.result))
+    _ (λ asked laws. unless_follows asked.action _ _ (λ does. (promises g c asked laws does).does)) job (c.do_words-note.ensures.does job is)
 
 pub returns-clause-draws : goal.returns-clause-draws
 returns-clause-draws g c = λ job is. on_job (inputs (g.R.Rng.stream c.args.rng.now) (g.I.Source.state c.args.input.now).left)
-    (λ asked. DrawsFor asked (g.H.Disk.state c.args.host.now) (g.R.Rng.stream c.args.rng.now) (g.R.Rng.stream c.do_words-note.new.rng) c.do_words-note.result)
-    (λ asked. DrawsFor asked (g.H.Disk.state c.args.host.now) (g.R.Rng.stream c.args.rng.now) (g.R.Rng.stream c.do_words-note.new.rng) c.end_run.result.note)
-    (λ asked laws draws. subst (λ (n : Note). DrawsFor asked (g.H.Disk.state c.args.host.now) (g.R.Rng.stream c.args.rng.now) (g.R.Rng.stream c.do_words-note.new.rng) n) (sym c.end_run.ensures.note) draws)
+    (λ asked. UnlessRepack asked.action (DrawsFor asked (g.H.Disk.state c.args.host.now) (g.R.Rng.stream c.args.rng.now) (g.R.Rng.stream c.do_words-note.new.rng) c.do_words-note.result))
+    (λ asked. UnlessRepack asked.action (DrawsFor asked (g.H.Disk.state c.args.host.now) (g.R.Rng.stream c.args.rng.now) (g.R.Rng.stream c.do_words-note.new.rng) c.end_run.result.note))
+    (λ asked laws. unless_follows asked.action _ _ (λ draws. subst (λ (n : Note). DrawsFor asked (g.H.Disk.state c.args.host.now) (g.R.Rng.stream c.args.rng.now) (g.R.Rng.stream c.do_words-note.new.rng) n) (sym c.end_run.ensures.note) draws))
     job (c.do_words-note.ensures.draws job is)
 
 pub returns-clause-rebuilds : goal.returns-clause-rebuilds
@@ -69,3 +90,10 @@ returns-clause-silent g c = λ job is. on_conversion
     (λ asked. SamePrints (g.H.Host.streams c.args.host.now) (g.H.Host.streams c.end_run.new.host) × (c.do_words-note.new.spool ≡ c.args.spool.now))
     (λ asked silent. (same_prints _ _ _ silent.0 c.end_run.ensures.told c.end_run.ensures.tell_faults, silent.1))
     job (c.do_words-note.ensures.silent job is)
+
+pub returns-clause-rewrites : goal.returns-clause-rewrites
+returns-clause-rewrites g c = λ job is. on_repack
+    (λ asked. (g.H.Host.streams c.do_words-note.new.host ≡ g.H.Host.streams c.args.host.now) × (g.R.Rng.stream c.do_words-note.new.rng ≡ g.R.Rng.stream c.args.rng.now))
+    (λ asked. SamePrints (g.H.Host.streams c.args.host.now) (g.H.Host.streams c.end_run.new.host) × (g.R.Rng.stream c.do_words-note.new.rng ≡ g.R.Rng.stream c.args.rng.now))
+    (λ asked silent. (same_prints _ _ _ silent.0 c.end_run.ensures.told c.end_run.ensures.tell_faults, silent.1))
+    job (c.do_words-note.ensures.rewrites job is)
