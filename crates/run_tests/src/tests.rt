@@ -4,6 +4,7 @@ mod converting;
 mod exercising;
 mod files;
 mod limits;
+mod repacking;
 mod rows;
 mod runs;
 mod scripting;

@@ -1,0 +1,4 @@
+// Databases of both kinds are rewritten afresh.
+mod failing;
+mod flat;
+mod twoskips;
