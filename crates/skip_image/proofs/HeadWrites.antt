@@ -15,14 +15,14 @@ use Rattle.skip_spec.specs.Rows.{IsAmong}
 use Rattle.skip_spec.specs.Chain.{pairs}
 use Rattle.skip_spec.specs.Opens as opens
 use Rattle.skip_spec.specs.Opens.{Contents}
-use Rattle.skip_spec.specs.Near.{heads, free_slot_of, MayHold, IsImageOf, IsPermittedWrite}
+use Rattle.skip_spec.specs.Near.{heads, MayHold, IsImageOf, IsPermittedWrite}
 use Rattle.skip_spec.proofs.Cuts.{dirty_image, append_permitted}
 use Rattle.skip_spec.proofs.Kept.{free_slot_le, head_kept}
 use Rattle.skip_spec.proofs.Landed.{landing_near}
 use Rattle.skip_spec.proofs.Parts.{part-moved, head_in-same, get_or-part}
 use Rattle.skip_spec.proofs.Places.{Within, apart, places, laid, head_is}
 use Rattle.skip_lists.specs.Heads.{HasSlots, SetsPointer, MaySet}
-use Rattle.skip_lists.specs.Tie.{IsLeft, TiedToBase, LeavesMap}
+use Rattle.skip_lists.specs.Tie.{TiedToBase, LeavesMap}
 use Rattle.skip_lists.proofs.Permitted.{head_span, set_permitted}
 use Rattle.skip_lists.proofs.Setting.{as_written, set_as_written}
 use Rattle.skip_lists.proofs.Ties.{write_moments, write_tied}
@@ -34,44 +34,44 @@ module _ (base c : List ℕ) (f : Contents) (r : opens.Reads base f) (n : IsImag
   abbrev count : ℕ
   count = head_size_of (head_in c p) - 4
 
-  abbrev bytes : List ℕ
-  bytes = part c p count
+  abbrev head_bytes : List ℕ
+  head_bytes = part c p count
 
-  long_bytes : length bytes ≡ count
-  long_bytes = length-part c p count (omega (arith, there.inside))
+  long_head : length head_bytes ≡ count
+  long_head = length-part c p count (omega (arith, there.inside))
 
-  byte_at : (i : ℕ) → p ≤ i → i < p + count → get_or bytes (i - p) 0 ≡ get_or c i 0
+  byte_at : (i : ℕ) → p ≤ i → i < p + count → get_or head_bytes (i - p) 0 ≡ get_or c i 0
   byte_at i lo hi = get_or-part c p count (i - p) (omega arith) ∙ ap (λ (j : ℕ). get_or c j 0) (let e : p + (i - p) ≡ i = omega arith in e)
 
   module _ (lt : p < f.header.current_size) where
-    is : IsAmong (heads f) p
-    is = known lt
+    is_head : IsAmong (heads f) p
+    is_head = known lt
 
     span : Within base 64 f.header.current_size p
-    span = head_span base f r p is
+    span = head_span base f r p is_head
 
-    size : count ≡ head_size_of (head_in base p) - 4
-    size = ap (λ (h : Head). head_size_of h - 4) (head_kept base c f r n p (head_is base f r p is).0)
+    size_kept : count ≡ head_size_of (head_in base p) - 4
+    size_kept = ap (λ (h : Head). head_size_of h - 4) (head_kept base c f r n p (head_is base f r p is_head).0)
 
-    head_inside : IsPermittedWrite base f p bytes
+    head_inside : IsPermittedWrite base f p head_bytes
     head_inside = record {
       past_header = span.low;
-      others = λ i lo hi in_end fixed. byte_at i lo (omega (arith, long_bytes)) ∙ n.others i (omega (arith, span.low)) in_end fixed;
+      others = λ i lo hi in_end fixed. byte_at i lo (omega (arith, long_head)) ∙ n.others i (omega (arith, span.low)) in_end fixed;
       slots = λ h h_is m m_is.
           let small : m ≤ 1 = omega (arith, m_is, free_slot_le f.header.current_size (pointer_in base h 0) (pointer_in base h 1)) in
-          elim (apart base 64 (places f) f.header.current_size h p (laid base f r) (head_is base f r h h_is).0 (head_is base f r p is).0) [
+          elim (apart base 64 (places f) f.header.current_size h p (laid base f r) (head_is base f r h h_is).0 (head_is base f r p is_head).0) [
             | inl e ↦
-                let read : part bytes (h + 8 + 8 * m - p) 8 ≡ part c (h + 8 + 8 * m) 8 =
-                part-moved bytes c (h + 8 + 8 * m - p) (h + 8 + 8 * m) 8 (omega (arith, e, long_bytes, there.low)) (omega (arith, e, there.inside, there.low)) (λ i lt.
+                let read : part head_bytes (h + 8 + 8 * m - p) 8 ≡ part c (h + 8 + 8 * m) 8 =
+                part-moved head_bytes c (h + 8 + 8 * m - p) (h + 8 + 8 * m) 8 (omega (arith, e, long_head, there.low)) (omega (arith, e, there.inside, there.low)) (λ i lt.
                 get_or-part c p count (h + 8 + 8 * m - p + i) (omega (arith, e, there.low)) ∙ ap (λ (j : ℕ). get_or c j 0) (let x : p + (h + 8 + 8 * m - p + i) ≡ h + 8 + 8 * m + i = omega (arith, e) in x)) in
-                inr (inr (omega (arith, e), omega (arith, e, long_bytes, there.low), subst (λ (x : ℕ). MayHold f.header.current_size (pointer_in base h m) x) (sym (ap u64_in read)) (n.slots h h_is m m_is)))
-            | inr far ↦ elim far [ inl before ↦ inl (omega arith) | inr after ↦ inr (inl (omega (arith, long_bytes, size))) ]
+                inr (inr (omega (arith, e), omega (arith, e, long_head, there.low), subst (λ (x : ℕ). MayHold f.header.current_size (pointer_in base h m) x) (sym (ap u64_in read)) (n.slots h h_is m m_is)))
+            | inr far ↦ elim far [ inl before ↦ inl (omega arith) | inr after ↦ inr (inl (omega (arith, long_head, size_kept))) ]
           ];
     }
 
-  pub head_permitted : IsPermittedWrite base f p bytes
+  pub head_permitted : IsPermittedWrite base f p head_bytes
   head_permitted = elim (cases_lt p f.header.current_size) [
-    | inr le ↦ append_permitted base f p bytes r le
+    | inr le ↦ append_permitted base f p head_bytes r le
     | inl lt ↦ head_inside lt
   ]
 
@@ -113,14 +113,14 @@ module _ (b c : List ℕ) (p slot to : ℕ) (there : HasSlots b p) (fits : slot 
 
   pub set_more : (was : List ℕ) → ChangesHead was b p → ChangesHead was c p
   set_more was changes =
-      let size : head_size_of (head_in c p) ≡ head_size_of (head_in b p) = ap head_size_of same_head in
+      let same : head_size_of (head_in c p) ≡ head_size_of (head_in b p) = ap head_size_of same_head in
       record {
         long = long ∙ changes.long;
         others = λ i lt side.
             sets.others i (omega (arith, lt, changes.long))
-            (elim side [ inl low ↦ inl (omega arith) | inr high ↦ inr (omega (arith, high, fits, size)) ])
-            (elim side [ inl low ↦ inl (omega arith) | inr high ↦ inr (omega (arith, high, size)) ])
-            ∙ changes.others i lt (elim side [ inl low ↦ inl low | inr high ↦ inr (omega (arith, high, size)) ]);
+            (elim side [ inl low ↦ inl (omega arith) | inr high ↦ inr (omega (arith, high, fits, same)) ])
+            (elim side [ inl low ↦ inl (omega arith) | inr high ↦ inr (omega (arith, high, same)) ])
+            ∙ changes.others i lt (elim side [ inl low ↦ inl low | inr high ↦ inr (omega (arith, high, same)) ]);
       }
 
   pub reads_more : (s : DiskState) → ReadsButHead s b p → ReadsButHead s c p

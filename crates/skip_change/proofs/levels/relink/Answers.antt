@@ -69,11 +69,11 @@ loop-level-preserved g c =
           let now = c.loop-level.invariant.tied base says s t known begun in
           let may = level_allowed base old b before leads c.args.height level to says s begun known (c.loop-level.invariant.relinked s begun) low high in
           let left = c.in_ok-leave_head.ensures.tied base says now.0 may.known in (
-            subst (λ (n : ℕ). IsAhead base says new (slice_index before n) _) next (more_ahead b new at (level + 1) to there tall c.set_pointer.ensures.sets c.set_pointer.ensures.size base says _ left may),
+            subst (λ (n : ℕ). IsAhead base says new (slice_index before n) (g.D.Disk.state c.leave_head.new.disk)) next (more_ahead b new at (level + 1) to there tall c.set_pointer.ensures.sets c.set_pointer.ensures.size base says _ left may),
             then_leaves (pairs says.chain) _ _ _ (on _ _ c.loop-level.invariant.rest) (on _ _ c.leave_head.ensures.rest) c.loop-level.invariant.mark now.1 (c.leave_head.ensures.moments base says now.0),
           );
       long_left = λ most le. then_up_to most _ _ _ (on _ _ c.loop-level.invariant.rest) (on _ _ c.leave_head.ensures.rest) c.loop-level.invariant.mark (c.loop-level.invariant.long_left most le) (c.leave_head.ensures.long most (omega (arith, le, c.loop-level.invariant.long)));
-      reads = λ shows. subst (λ (n : ℕ). ReadsButHead _ new (slice_index before n)) next (reads_more b new at (level + 1) to there tall c.set_pointer.ensures.sets c.set_pointer.ensures.size _ (c.in_ok-leave_head.ensures.reads shows));
+      reads = λ shows. subst (λ (n : ℕ). ReadsButHead (g.D.Disk.state c.leave_head.new.disk) new (slice_index before n)) next (reads_more b new at (level + 1) to there tall c.set_pointer.ensures.sets c.set_pointer.ensures.size _ (c.in_ok-leave_head.ensures.reads shows));
       long = c.set_pointer.ensures.size ∙ c.loop-level.invariant.long;
       spare = omega (arith, c.set_pointer.ensures.spare, c.loop-level.invariant.spare);
       written = omega (arith, c.leave_head.ensures.written, c.loop-level.invariant.written);
@@ -102,7 +102,7 @@ returns-clause-relinked g c = λ s begun.
 pub returns-clause-tied : goal.returns-clause-tied
 returns-clause-tied g c = λ base says s t known begun.
     let e : c.loop-level.level ≡ c.args.height = omega (arith, c.loop-level-test.false, c.loop-level.auto.level-end, c.requires.low) in
-    c.in_ok-write_head.ensures.tied base says (subst (λ (n : ℕ). IsAhead base says c.loop-level.image.bytes (slice_index c.args.before.now (n - 1)) _) e (c.loop-level.invariant.tied base says s t known begun).0)
+    c.in_ok-write_head.ensures.tied base says (subst (λ (n : ℕ). IsAhead base says c.loop-level.image.bytes (slice_index c.args.before.now (n - 1)) (g.D.Disk.state c.loop-level.disk)) e (c.loop-level.invariant.tied base says s t known begun).0)
 
 pub returns-in_err-write_head-clause-moments : goal.returns-in_err-write_head-clause-moments
 returns-in_err-write_head-clause-moments g c = λ base says s t known begun.
@@ -110,7 +110,7 @@ returns-in_err-write_head-clause-moments g c = λ base says s t known begun.
     let e : c.loop-level.level ≡ c.args.height = omega (arith, c.loop-level-test.false, c.loop-level.auto.level-end, c.requires.low) in
     let now = c.loop-level.invariant.tied base says s t known begun in
     then_leaves (pairs says.chain) _ _ _ (on _ _ c.loop-level.invariant.rest) (on _ _ c.write_head.ensures.rest) c.loop-level.invariant.mark now.1
-    (c.write_head.ensures.moments base says (subst (λ (n : ℕ). IsAhead base says c.loop-level.image.bytes (slice_index c.args.before.now (n - 1)) _) e now.0))
+    (c.write_head.ensures.moments base says (subst (λ (n : ℕ). IsAhead base says c.loop-level.image.bytes (slice_index c.args.before.now (n - 1)) (g.D.Disk.state c.loop-level.disk)) e now.0))
 
 pub returns-clause-moments : goal.returns-clause-moments
 returns-clause-moments g c = λ base says s t known begun.
@@ -118,7 +118,7 @@ returns-clause-moments g c = λ base says s t known begun.
     let e : c.loop-level.level ≡ c.args.height = omega (arith, c.loop-level-test.false, c.loop-level.auto.level-end, c.requires.low) in
     let now = c.loop-level.invariant.tied base says s t known begun in
     then_leaves (pairs says.chain) _ _ _ (on _ _ c.loop-level.invariant.rest) (on _ _ c.write_head.ensures.rest) c.loop-level.invariant.mark now.1
-    (c.write_head.ensures.moments base says (subst (λ (n : ℕ). IsAhead base says c.loop-level.image.bytes (slice_index c.args.before.now (n - 1)) _) e now.0))
+    (c.write_head.ensures.moments base says (subst (λ (n : ℕ). IsAhead base says c.loop-level.image.bytes (slice_index c.args.before.now (n - 1)) (g.D.Disk.state c.loop-level.disk)) e now.0))
 
 pub returns-in_err-leave_head-clause-long : goal.returns-in_err-leave_head-clause-long
 returns-in_err-leave_head-clause-long g c = λ most le.

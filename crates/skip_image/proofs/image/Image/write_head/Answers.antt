@@ -1,4 +1,4 @@
-use Rattle.std.proofs.Common.{◌≡◌, ℕ, ◌-◌, List, sym, ap, ◌∙◌, Some}
+use Rattle.std.proofs.Common.{◌≡◌, ℕ, ◌-◌, List, sym, ap, ◌∙◌, Some, arith}
 use Rattle.base_bytes.specs.Fields.{part}
 use Rattle.base_bytes.specs.Landing.{written_at}
 use Rattle.skip_form.specs.Flaws.{head_in}
@@ -36,3 +36,6 @@ returns-clause-tied g c = λ base says ahead.
     let b = c.args.self.now.bytes in
     let is = same_bytes b c.bytes.result.now c.bytes-2.result.now c.args.at c.head_size_at-size.result c.part_at.result.now c.bytes.ensures c.head_size_at-size.ensures c.bytes-2.ensures c.part_at.ensures.bytes in
     head_tied base b says c.args.at _ ahead c.requires.there c.part_at.result.now is _ c.write_at.ensures.write.crash (returns-clause-reads g c)
+
+pub write_at-requires : goal.write_at-requires
+write_at-requires g c = λ shows. let old = c.requires.reads shows in (old.0, old.1, omega (arith, old.2.long, c.requires.there.inside))
