@@ -20,7 +20,7 @@ pub returns-then-at-next-clause-rest : goal.returns-then-at-next-clause-rest
 returns-then-at-next-clause-rest g c = g.met.D.Disk.rest_same _
 
 pub returns-clause-reads : goal.returns-clause-reads
-returns-clause-reads g c = λ shows. reads_all c.args.image.now.bytes c.args.next _ (c.in_ok-write_head.ensures.reads shows)
+returns-clause-reads g c = λ shows. reads_all c.args.image.now.bytes c.args.next (g.D.Disk.state c.write_head.new.disk) (c.in_ok-write_head.ensures.reads shows)
 
 pub returns-clause-tied : goal.returns-clause-tied
 returns-clause-tied g c = λ base says ahead known. not_ahead base c.args.image.now.bytes says c.args.next _ (c.in_ok-write_head.ensures.tied base says ahead) known

@@ -61,7 +61,7 @@ returns-clause-reads g c = λ shows.
     let grown = slots_grown c.args.image.now.bytes (record_bytes r) c.args.at c.requires.there in
     let there = subst (λ (d : List ℕ). HasSlots d c.args.at) (sym c.write_record.ensures.bytes) grown in
     let fits : c.free_slot-slot.result ≤ (head_in mid c.args.at).level = omega (arith, there.low, c.free_slot-slot.ensures.range) in
-    reads_more mid c.set_pointer.new.self.bytes c.args.at c.free_slot-slot.result c.length-end.result there fits c.set_pointer.ensures.sets c.set_pointer.ensures.size _ (reads_all mid c.args.at _ (c.in_ok-write_record.ensures.reads shows))
+    reads_more mid c.set_pointer.new.self.bytes c.args.at c.free_slot-slot.result c.length-end.result there fits c.set_pointer.ensures.sets c.set_pointer.ensures.size (g.D.Disk.state c.write_record.new.disk) (reads_all mid c.args.at (g.D.Disk.state c.write_record.new.disk) (c.in_ok-write_record.ensures.reads shows))
 
 placed : (b mid new : List ℕ) (r : Record) (committed at slot end : ℕ) → mid ≡ b ++ record_bytes r → SetsPointer mid new at slot end → length new ≡ length mid → HasSlots b at → slot ≤ 1 → IsRecord r → AreBytes (record_bytes r) → (r.kind ≡ Dummy → ⊥) → 336 ≤ length b → slot ≡ free_slot_of b committed at → end ≡ length b → Places committed at r b new
 placed b mid new r committed at slot end e sets long there small fits bytes no_dummy past is_slot is_end =

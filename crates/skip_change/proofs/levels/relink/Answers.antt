@@ -73,7 +73,7 @@ loop-level-preserved g c =
             then_leaves (pairs says.chain) _ _ _ (on _ _ c.loop-level.invariant.rest) (on _ _ c.leave_head.ensures.rest) c.loop-level.invariant.mark now.1 (c.leave_head.ensures.moments base says now.0),
           );
       long_left = λ most le. then_up_to most _ _ _ (on _ _ c.loop-level.invariant.rest) (on _ _ c.leave_head.ensures.rest) c.loop-level.invariant.mark (c.loop-level.invariant.long_left most le) (c.leave_head.ensures.long most (omega (arith, le, c.loop-level.invariant.long)));
-      reads = λ shows. subst (λ (n : ℕ). ReadsButHead (g.D.Disk.state c.leave_head.new.disk) new (slice_index before n)) next (reads_more b new at (level + 1) to there tall c.set_pointer.ensures.sets c.set_pointer.ensures.size _ (c.in_ok-leave_head.ensures.reads shows));
+      reads = λ shows. subst (λ (n : ℕ). ReadsButHead (g.D.Disk.state c.leave_head.new.disk) new (slice_index before n)) next (reads_more b new at (level + 1) to there tall c.set_pointer.ensures.sets c.set_pointer.ensures.size (g.D.Disk.state c.leave_head.new.disk) (c.in_ok-leave_head.ensures.reads shows));
       long = c.set_pointer.ensures.size ∙ c.loop-level.invariant.long;
       spare = omega (arith, c.set_pointer.ensures.spare, c.loop-level.invariant.spare);
       written = omega (arith, c.leave_head.ensures.written, c.loop-level.invariant.written);
