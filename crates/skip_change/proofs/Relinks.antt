@@ -5,10 +5,11 @@ use Rattle.skip_form.specs.Flaws.{head_in}
 use Rattle.skip_spec.specs.Rows.{IsAmong}
 use Rattle.skip_spec.specs.Change.{last_at, heads_of}
 use Rattle.skip_spec.specs.Opens.{Contents, on_level}
-use Rattle.skip_spec.proofs.Lists.{among_front, last_among, level_head}
+use Rattle.skip_spec.proofs.Lists.{among_front, in_front, last_among, level_head}
 use Rattle.skip_spec.proofs.SameLog.{head_of_log, span_of}
 use Rattle.skip_lists.specs.Heads.{HasSlots, SetsPointer, MaySet}
 use Rattle.skip_lists.specs.Tie.{AreKnown}
+use Rattle.skip_lists.proofs.Frames.{has_slots}
 use Rattle.skip_lists.proofs.Relinked.{head_on, relinked, level_may}
 use Rattle.skip_change.specs.Changing.{Swap, listed_by, IsBegun, IsRelinked}
 use Rattle.skip_change.proofs.Keeping.{setting_keeps, keeps_then}
@@ -20,10 +21,14 @@ begun_relinked b before leads height s begun = record {
   rest = record { header = refl; links = record { grows = omega arith; others = λ i low lt all. refl } };
 }
 
-module _ (old b before leads : List ℕ) (height level : ℕ) (s : Swap) (begun : IsBegun old before leads height s) (done : IsRelinked old b level s) (high : level ≤ 30) where
-  pub head_there : HasSlots b (slice_index before level)
-  head_there = subst (λ (v : ℕ). HasSlots b v) (sym (begun.to_lead.last level high)) (head_on b s.starts s.front s.dropped s.added s.rest level done.relinking high).0
+-- the last of the front on a level has upper levels
+pub front_slots : (old b before leads : List ℕ) (height done level : ℕ) (s : Swap) → IsBegun old before leads height s → IsRelinked old b done s → level ≤ 30 → HasSlots b (slice_index before level)
+front_slots old b before leads height done level s begun is high =
+    let at = last_at 64 (on_level level s.front) in
+    let on = in_front level s.front (s.added ++ s.rest) at (last_among 64 (on_level level s.front)) in
+    subst (λ (v : ℕ). HasSlots b v) (sym (begun.to_lead.last level high)) (has_slots b s.starts (listed_by s) (length b) is.relinking.listed.log at (level_head level (listed_by s) at on))
 
+module _ (old b before leads : List ℕ) (height level : ℕ) (s : Swap) (begun : IsBegun old before leads height s) (done : IsRelinked old b level s) (high : level ≤ 30) where
   pub head_tall : level + 1 ≤ (head_in b (slice_index before level)).level
   head_tall = subst (λ (v : ℕ). level + 1 ≤ (head_in b v).level) (sym (begun.to_lead.last level high)) (head_on b s.starts s.front s.dropped s.added s.rest level done.relinking high).1
 

@@ -19,6 +19,7 @@ impl Image {
     ghost use Rattle.skip_spec.specs.Records.{head_size_of};
     ghost use Rattle.skip_lists.specs.Heads.{HasSlots, SetsPointer, MaySet};
     ghost use Rattle.skip_lists.specs.Tie.{TiedToBase, LeavesMap, StaysUpTo};
+    ghost use Rattle.skip_image.specs.HeadWrites.{ReadsButHead, IsAhead};
 
     /// Sets a pointer of the dummy or of a put record, and makes the head check right.
     pub fn set_pointer(&mut self, at: u64, slot: u8, to: u64)
@@ -71,6 +72,34 @@ impl Image {
     {
         let size = head_size_at(self.bytes(), at as usize) - 4;
         self.set_pointer(at, slot, to);
+        disk.write_at(at, part_at(self.bytes(), at as usize, size))?;
+        Ok(())
+    }
+
+    /// Writes the head of a record up to its tail check to the disk, in one call, after pointers of it were set.
+    pub fn write_head<D: Disk>(&self, disk: &mut D, at: u64) -> Result<(), Failed>
+        requires there { HasSlots self.now.bytes at }
+        requires reads { Shows (D.state disk.old)
+            → ReadsButHead (D.state disk.old) self.now.bytes at }
+        ensures reads { OnOk result (Shows (D.state disk.new)
+            → Reads (D.state disk.new) self.now.bytes) }
+        // What a stop leaves, where the bytes are ahead of the disk by this head.
+        ensures tied { (base : List ℕ) (says : Contents)
+            → IsAhead base says self.now.bytes at (D.state disk.old)
+            → OnOk result (TiedToBase base says self.now.bytes (D.state disk.new)) }
+        ensures moments { (base : List ℕ) (says : Contents)
+            → IsAhead base says self.now.bytes at (D.state disk.old)
+            → LeavesMap (pairs says.chain) (D.state disk.old) (D.state disk.new) }
+        ensures long { (most : ℕ) → length self.now.bytes ≤ most
+            → StaysUpTo most (D.state disk.old) (D.state disk.new) }
+        // What else the disk shows.
+        ensures written { (D.state disk.new).written ≤ (D.state disk.old).written + 272 }
+        ensures publishes { (D.state disk.new).publishes ≡ (D.state disk.old).publishes }
+        ensures mark { (D.state disk.new).mark ≡ (D.state disk.old).mark }
+        ensures cause { HasCause (D.state disk.old).faults (D.state disk.new).faults result }
+        ensures rest { D.disk_rest disk.old disk.new }
+    {
+        let size = head_size_at(self.bytes(), at as usize) - 4;
         disk.write_at(at, part_at(self.bytes(), at as usize, size))?;
         Ok(())
     }

@@ -5,22 +5,22 @@ use Rattle.skip_form.specs.declared.head.Kind.TheVariants.{Dummy}
 use Rattle.skip_form.specs.Flaws.{head_in}
 use Rattle.skip_form.specs.Spelling.{Record, IsRecord, record_bytes}
 use Rattle.skip_spec.specs.Appending.{record_of}
-use Rattle.skip_spec.specs.Chain.{pairs}
 use Rattle.skip_spec.specs.Near.{free_slot_of}
 use Rattle.skip_spec.specs.Opens.{Contents, Tidy}
 use Rattle.skip_lists.specs.Heads.{HasSlots, SetsPointer, MaySet}
 use Rattle.skip_lists.specs.Tie.{TiedToBase}
 use Rattle.skip_lists.proofs.Appended.{slots_grown, may_place, sets_old, spelled_c}
-use Rattle.skip_lists.proofs.Ties.{image_of, then_leaves, then_up_to}
+use Rattle.skip_lists.proofs.Ties.{image_of}
+use Rattle.skip_image.proofs.HeadWrites.{not_ahead, reads_all, reads_more, more_ahead}
 use Rattle.skip_change.specs.Changing.{Places, IsKnown}
 use Rattle.skip_change.proofs.levels.place_record.Goals as goal
 
-pub write_pointer-requires-clause-there : goal.write_pointer-requires-clause-there
-write_pointer-requires-clause-there g c =
+pub set_pointer-requires-clause-there : goal.set_pointer-requires-clause-there
+set_pointer-requires-clause-there g c =
     subst (λ (d : List ℕ). HasSlots d c.args.at) (sym c.write_record.ensures.bytes) (slots_grown c.args.image.now.bytes (record_bytes (record_of c.args.kind c.args.level c.args.pointers.now c.args.key.now c.args.value.now)) c.args.at c.requires.there)
 
-pub write_pointer-requires-clause-slot : goal.write_pointer-requires-clause-slot
-write_pointer-requires-clause-slot g c =
+pub set_pointer-requires-clause-slot : goal.set_pointer-requires-clause-slot
+set_pointer-requires-clause-slot g c =
     let r = record_of c.args.kind c.args.level c.args.pointers.now c.args.key.now c.args.value.now in
     let same = ap (λ (d : List ℕ). (head_in d c.args.at).level) c.write_record.ensures.bytes in
     let there = slots_grown c.args.image.now.bytes (record_bytes r) c.args.at c.requires.there in
@@ -29,11 +29,8 @@ write_pointer-requires-clause-slot g c =
 pub returns-in_err-write_record-clause-length : goal.returns-in_err-write_record-clause-length
 returns-in_err-write_record-clause-length g c = c.write_record.ensures.length
 
-pub returns-in_err-write_pointer-clause-length : goal.returns-in_err-write_pointer-clause-length
-returns-in_err-write_pointer-clause-length g c = c.write_pointer.ensures.size ∙ c.write_record.ensures.length
-
 pub returns-clause-length : goal.returns-clause-length
-returns-clause-length g c = c.write_pointer.ensures.size ∙ c.write_record.ensures.length
+returns-clause-length g c = c.set_pointer.ensures.size ∙ c.write_record.ensures.length
 
 -- the free slot is that of the old bytes, whose head stays
 may : (base b mid added : List ℕ) (says : Contents) (d : DiskState) (committed at slot end : ℕ) → TiedToBase base says b d → Tidy base says → IsKnown says committed at → mid ≡ b ++ added → HasSlots b at → slot ≡ free_slot_of b committed at → end ≡ length b → MaySet base says mid at slot end
@@ -45,25 +42,26 @@ may base b mid added says d committed at slot end t tidy known is_mid there is_s
 pub returns-in_err-write_record-clause-moments : goal.returns-in_err-write_record-clause-moments
 returns-in_err-write_record-clause-moments g c = λ base says t tidy known. c.write_record.ensures.moments base says t
 
-pub returns-in_err-write_pointer-clause-moments : goal.returns-in_err-write_pointer-clause-moments
-returns-in_err-write_pointer-clause-moments g c = λ base says t tidy known.
-    let on = g.met.D.Disk.rest_goes_on in
-    let r = record_of c.args.kind c.args.level c.args.pointers.now c.args.key.now c.args.value.now in
-    let may-2 = may base c.args.image.now.bytes c.write_record.new.image.bytes (record_bytes r) says _ c.args.committed c.args.at c.free_slot-slot.result c.length-end.result t tidy known c.write_record.ensures.bytes c.requires.there c.free_slot-slot.ensures.exact c.length-end.ensures.size in
-    then_leaves (pairs says.chain) _ _ _ (on _ _ c.write_record.ensures.rest) (on _ _ c.write_pointer.ensures.rest) c.write_record.ensures.mark (c.write_record.ensures.moments base says t) (c.write_pointer.ensures.moments base says (c.in_ok-write_record.ensures.tied base says t) may-2)
-
 pub returns-clause-moments : goal.returns-clause-moments
-returns-clause-moments g c = λ base says t tidy known.
-    let on = g.met.D.Disk.rest_goes_on in
-    let r = record_of c.args.kind c.args.level c.args.pointers.now c.args.key.now c.args.value.now in
-    let may-2 = may base c.args.image.now.bytes c.write_record.new.image.bytes (record_bytes r) says _ c.args.committed c.args.at c.free_slot-slot.result c.length-end.result t tidy known c.write_record.ensures.bytes c.requires.there c.free_slot-slot.ensures.exact c.length-end.ensures.size in
-    then_leaves (pairs says.chain) _ _ _ (on _ _ c.write_record.ensures.rest) (on _ _ c.write_pointer.ensures.rest) c.write_record.ensures.mark (c.write_record.ensures.moments base says t) (c.write_pointer.ensures.moments base says (c.in_ok-write_record.ensures.tied base says t) may-2)
+returns-clause-moments g c = λ base says t tidy known. c.write_record.ensures.moments base says t
 
 pub returns-clause-tied : goal.returns-clause-tied
 returns-clause-tied g c = λ base says t tidy known.
     let r = record_of c.args.kind c.args.level c.args.pointers.now c.args.key.now c.args.value.now in
     let may-2 = may base c.args.image.now.bytes c.write_record.new.image.bytes (record_bytes r) says _ c.args.committed c.args.at c.free_slot-slot.result c.length-end.result t tidy known c.write_record.ensures.bytes c.requires.there c.free_slot-slot.ensures.exact c.length-end.ensures.size in
-    c.in_ok-write_pointer.ensures.tied base says (c.in_ok-write_record.ensures.tied base says t) may-2
+    let mid = c.write_record.new.image.bytes in
+    let there = subst (λ (d : List ℕ). HasSlots d c.args.at) (sym c.write_record.ensures.bytes) (slots_grown c.args.image.now.bytes (record_bytes r) c.args.at c.requires.there) in
+    let ahead = not_ahead base mid says c.args.at _ (c.in_ok-write_record.ensures.tied base says t) may-2.known in
+    more_ahead mid c.set_pointer.new.self.bytes c.args.at c.free_slot-slot.result c.length-end.result there may-2.inside c.set_pointer.ensures.sets c.set_pointer.ensures.size base says _ ahead may-2
+
+pub returns-clause-reads : goal.returns-clause-reads
+returns-clause-reads g c = λ shows.
+    let r = record_of c.args.kind c.args.level c.args.pointers.now c.args.key.now c.args.value.now in
+    let mid = c.write_record.new.image.bytes in
+    let grown = slots_grown c.args.image.now.bytes (record_bytes r) c.args.at c.requires.there in
+    let there = subst (λ (d : List ℕ). HasSlots d c.args.at) (sym c.write_record.ensures.bytes) grown in
+    let fits : c.free_slot-slot.result ≤ (head_in mid c.args.at).level = omega (arith, there.low, c.free_slot-slot.ensures.range) in
+    reads_more mid c.set_pointer.new.self.bytes c.args.at c.free_slot-slot.result c.length-end.result there fits c.set_pointer.ensures.sets c.set_pointer.ensures.size (g.D.Disk.state c.write_record.new.disk) (reads_all mid c.args.at (g.D.Disk.state c.write_record.new.disk) (c.in_ok-write_record.ensures.reads shows))
 
 placed : (b mid new : List ℕ) (r : Record) (committed at slot end : ℕ) → mid ≡ b ++ record_bytes r → SetsPointer mid new at slot end → length new ≡ length mid → HasSlots b at → slot ≤ 1 → IsRecord r → AreBytes (record_bytes r) → (r.kind ≡ Dummy → ⊥) → 336 ≤ length b → slot ≡ free_slot_of b committed at → end ≡ length b → Places committed at r b new
 placed b mid new r committed at slot end e sets long there small fits bytes no_dummy past is_slot is_end =
@@ -76,19 +74,10 @@ placed b mid new r committed at slot end e sets long there small fits bytes no_d
 
 pub returns-clause-placed : goal.returns-clause-placed
 returns-clause-placed g c =
-    placed c.args.image.now.bytes c.write_record.new.image.bytes c.write_pointer.new.self.bytes (record_of c.args.kind c.args.level c.args.pointers.now c.args.key.now c.args.value.now) c.args.committed c.args.at c.free_slot-slot.result c.length-end.result c.write_record.ensures.bytes c.write_pointer.ensures.sets c.write_pointer.ensures.size c.requires.there c.free_slot-slot.ensures.range c.write_record.ensures.form c.write_record.ensures.fits c.requires.kind c.requires.past c.free_slot-slot.ensures.exact c.length-end.ensures.size
+    placed c.args.image.now.bytes c.write_record.new.image.bytes c.set_pointer.new.self.bytes (record_of c.args.kind c.args.level c.args.pointers.now c.args.key.now c.args.value.now) c.args.committed c.args.at c.free_slot-slot.result c.length-end.result c.write_record.ensures.bytes c.set_pointer.ensures.sets c.set_pointer.ensures.size c.requires.there c.free_slot-slot.ensures.range c.write_record.ensures.form c.write_record.ensures.fits c.requires.kind c.requires.past c.free_slot-slot.ensures.exact c.length-end.ensures.size
 
 pub returns-in_err-write_record-clause-long : goal.returns-in_err-write_record-clause-long
 returns-in_err-write_record-clause-long g c = λ most le. c.write_record.ensures.long most le
 
-pub returns-in_err-write_pointer-clause-long : goal.returns-in_err-write_pointer-clause-long
-returns-in_err-write_pointer-clause-long g c = λ most le.
-    let on = g.met.D.Disk.rest_goes_on in
-    let mid : length c.write_record.new.image.bytes ≤ most = omega (arith, le, c.write_pointer.ensures.size) in
-    then_up_to most _ _ _ (on _ _ c.write_record.ensures.rest) (on _ _ c.write_pointer.ensures.rest) c.write_record.ensures.mark (c.write_record.ensures.long most mid) (c.write_pointer.ensures.long most mid)
-
 pub returns-clause-long : goal.returns-clause-long
-returns-clause-long g c = λ most le.
-    let on = g.met.D.Disk.rest_goes_on in
-    let mid : length c.write_record.new.image.bytes ≤ most = omega (arith, le, c.write_pointer.ensures.size) in
-    then_up_to most _ _ _ (on _ _ c.write_record.ensures.rest) (on _ _ c.write_pointer.ensures.rest) c.write_record.ensures.mark (c.write_record.ensures.long most mid) (c.write_pointer.ensures.long most mid)
+returns-clause-long g c = λ most le. c.write_record.ensures.long most (omega (arith, le, c.set_pointer.ensures.size))
