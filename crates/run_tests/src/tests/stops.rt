@@ -96,8 +96,8 @@ fn assert_left(
     Ok(())
 }
 
-// Stops a change after each number of landings, of which the two headers, the two records and three heads make one each
-// at least. After all of them only the last sync is left to fail.
+// Stops a change after each number of landings, of which the two headers, the two records and two heads, or one of five
+// lines, make one each at least. After all of them only the last sync is left to fail.
 fn assert_change(
     rt: &impl Abort,
     alloc: Global,
@@ -107,7 +107,7 @@ fn assert_change(
     let (host, status) = host_after(alloc, file, change.line, change.level, None)?;
     let landings = host.disk().landings();
     assert_eq!(rt; status, 0);
-    assert!(rt; landings >= 7, "{landings} landings");
+    assert!(rt; landings >= 6, "{landings} landings");
     assert_repaired(rt, alloc, &file_on(alloc, &host)?, change.after)?;
     for stop in 0..=landings {
         let (host, status) = host_after(alloc, file, change.line, change.level, Some(stop))?;
