@@ -10,10 +10,11 @@ ghost use Rattle.base_notes.specs.declared.note.Device.TheVariants.{Input as Inp
 ghost use Rattle.base_notes.specs.declared.note.Note.{Note};
 ghost use Rattle.base_notes.specs.Notes.{status_of};
 ghost use Rattle.cyr_top.specs.Actions.{but_warned};
-ghost use Rattle.cyr_top.specs.Asked.{OnDatabase, built_job_of, inputs, is_built};
+ghost use Rattle.cyr_top.specs.Asked.{OnDatabase, UnlessRepack, built_job_of, inputs, is_built};
 ghost use Rattle.cyr_top.specs.Converting.{DoesConversion, OnConversion, with_both};
 ghost use Rattle.cyr_top.specs.Crashes.{KeepsPromises};
 ghost use Rattle.cyr_top.specs.Rebuilding.{DoesRebuild, OnFolder, rebuild_of};
+ghost use Rattle.cyr_top.specs.Repacking.{DoesRepack, OnRepack};
 ghost use Rattle.cyr_top.specs.Stated.{Ran, Warns};
 ghost use Rattle.db_tool.specs.ToolNotes.{Faults};
 ghost use Rattle.tool_words.specs.PathsOf.{folder_path_of, main_path_of, second_path_of};
@@ -94,8 +95,11 @@ fn end_job<H: Host, D: Disk, S: Spool, I: Source, R: Rng>(
         × Faults InputDevice note (I.state input.old).faults (I.state input.new).faults
         × (is_built job.now ≡ true → OnDatabase
         (inputs (R.stream rng.old) (I.state input.old).left)
-        (λ asked. KeepsPromises asked (moment (H.state host.old) (H.streams host.old))
-        (but_warned (H.state host.new) (H.streams host.old) (H.streams host.new)) note) job.now)
+        (λ asked. UnlessRepack asked.action
+        (KeepsPromises asked (moment (H.state host.old) (H.streams host.old))
+        (but_warned (H.state host.new) (H.streams host.old) (H.streams host.new)) note)) job.now)
+        × (is_built job.now ≡ true → OnRepack
+        (λ asked. DoesRepack asked (H.state host.old) (H.state host.new) note) job.now)
         × OnConversion (λ asked. DoesConversion asked
         (with_both (H.state host.old) (D.state second.old) (R.stream rng.old))
         (with_both (H.state host.new) (D.state second.new) (R.stream rng.new)) note) job.now

@@ -5,7 +5,7 @@ use std::process::Abort;
 use std::test::Fail;
 
 // Lines of words, the name of the tool included.
-const WRONG: [&str; 32] = [
+const WRONG: [&str; 34] = [
     "",
     "cyr_dbtool",
     "cyr_dbtool -n",
@@ -22,9 +22,9 @@ const WRONG: [&str; 32] = [
     "cyr_dbtool f Flat show",
     // no other action
     "cyr_dbtool f flat put b 2",
-    "cyr_dbtool f flat repack",
-    "cyr_dbtool f flat exercise 3",
-    "cyr_dbtool f twoskip repack",
+    "cyr_dbtool f flat repacks",
+    "cyr_dbtool f flat exercise 10001",
+    "cyr_dbtool f twoskip recover",
     "cyr_dbtool f flat SHOW",
     // a word too few or too many
     "cyr_dbtool f flat get",
@@ -35,6 +35,8 @@ const WRONG: [&str; 32] = [
     "cyr_dbtool f flat delete a b",
     "cyr_dbtool f flat show a b",
     "cyr_dbtool f flat consistent x",
+    "cyr_dbtool f flat repack x",
+    "cyr_dbtool f flat exercise",
     // no other flag, and a key that begins with `-` is given after `--`
     "cyr_dbtool f flat get -k",
     "cyr_dbtool f flat set -b 2",

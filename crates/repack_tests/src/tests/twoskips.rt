@@ -165,10 +165,10 @@ fn change_of(alloc: Global, step: &Step) -> Result<Change, Fail> {
 }
 
 // An open database over a new file that the steps changed.
-fn changed(alloc: Global, disk: &mut MemDisk, case: usize) -> Result<Twoskip, Fail> {
+fn changed(alloc: Global, disk: &mut MemDisk, case: &Case) -> Result<Twoskip, Fail> {
     create(disk)?;
     let mut db = open_db(alloc, disk)?;
-    for step in CASES[case].steps {
+    for step in case.steps {
         let change = change_of(alloc, step)?;
         run_changes(&mut db, disk, &[change])?;
     }
@@ -192,27 +192,25 @@ fn is_file_of(case: &Case, file: &[u8]) -> bool {
     same
 }
 
-fn assert_repacked(rt: &impl Abort, alloc: Global, case: usize) -> Result<(), Fail> {
+fn assert_repacked(rt: &impl Abort, alloc: Global, case: &Case) -> Result<(), Fail> {
     let mut disk = MemDisk::new(alloc, None, ROOM, &[])?;
     let mut db = changed(alloc, &mut disk, case)?;
     let publishes = disk.counts().publishes;
     let answer = repack(alloc, &mut db, &mut disk);
-    let is_wanted = disk
-        .main()
-        .is_some_and(|file| is_file_of(&CASES[case], file));
+    let is_wanted = disk.main().is_some_and(|file| is_file_of(case, file));
     let published = disk.counts().publishes - publishes;
     assert_eq!(rt;
         (answer, is_wanted, published),
         (Ok(()), true, 1),
         "{}",
-        CASES[case].name
+        case.name
     );
     Ok(())
 }
 
 #[test]
 fn files_are_rewritten(rt: HostRuntime) -> Result<(), Fail> {
-    for case in 0..CASES.len() {
+    for case in CASES {
         assert_repacked(&rt, rt.alloc(), case)?;
     }
     Ok(())
