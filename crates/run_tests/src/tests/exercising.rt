@@ -79,32 +79,32 @@ fn rounds_on_both_kinds(rt: HostRuntime) -> Result<(), Fail> {
 }
 
 // Each call of the disk fails in turn, until none does: nothing is printed, and whole rounds stand.
+fn assert_failing(rt: &impl Abort, alloc: Global, backend: &str, file: &[u8]) -> Result<(), Fail> {
+    let line = format!(in alloc; "{backend} exercise 2")?;
+    for call in 1..100u64 {
+        let (host, status) = host_after(alloc, line.as_str(), file, &[call], &[])?;
+        if status == 0 {
+            assert!(rt; call > 8, "{backend}: {call} calls");
+            return Ok(());
+        }
+        assert_eq!(rt;
+            (status, host.told()),
+            (74, b"".as_slice()),
+            "{backend}, call {call}"
+        );
+        let mut whole = false;
+        for row in &ROWS {
+            whole |= shows(alloc, backend, &host, row)?;
+        }
+        assert!(rt; whole, "{backend}, call {call}");
+    }
+    Err("the exercise does not end".into())
+}
+
 #[test]
 fn each_call_of_an_exercise_fails(rt: HostRuntime) -> Result<(), Fail> {
-    let alloc = rt.alloc();
-    for (backend, file) in [("flat", b"".as_slice()), ("twoskip", EMPTY.as_slice())] {
-        let line = format!(in alloc; "{backend} exercise 2")?;
-        let mut call = 1;
-        while call < 100u64 {
-            let (host, status) = host_after(alloc, line.as_str(), file, &[call], &[])?;
-            if status == 0 {
-                break;
-            }
-            assert_eq!(rt;
-                (status, host.told()),
-                (74, b"".as_slice()),
-                "{backend}, call {call}"
-            );
-            let mut whole = false;
-            for row in &ROWS {
-                whole |= shows(alloc, backend, &host, row)?;
-            }
-            assert!(rt; whole, "{backend}, call {call}");
-            call += 1;
-        }
-        assert!(rt; call > 8 && call < 100, "{backend}: {call} calls");
-    }
-    Ok(())
+    assert_failing(&rt, rt.alloc(), "flat", b"")?;
+    assert_failing(&rt, rt.alloc(), "twoskip", &EMPTY)
 }
 
 // Where the lines cannot be printed all rounds stand.
